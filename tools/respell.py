@@ -71,8 +71,20 @@ def declared(path):
             continue
         m = re.match(r"^\s+(?:pub )?(" + NAME + r")(?: \([^)]*\)| \{[^}]*\})* : ", line) or re.match(r"^\s+(?:pub )?(" + NAME + r") :$", line)
         if m and m.group(1) not in WORDS:
-            (members if inside else local).add(m.group(1))
+            # What a section or a record of lemmas exports is used by name elsewhere.
+            (members if inside else margin if line.lstrip().startswith("pub ") else local).add(m.group(1))
     return margin, members, local
+
+
+def of_others(text):
+    """The names that a file takes from the library."""
+    own = {os.path.basename(os.path.dirname(d)) for d in glob.glob("crates/*/src")}
+    taken = set()
+    for m in re.finditer(r"^\s*(?:pub )?(?:ghost )?use ([\w.·]+)\.\{([^}]*)\}", text, re.M):
+        path = m.group(1).split(".")
+        if path[0] != "Rattle" or path[1] not in own:
+            taken |= {n.strip() for n in m.group(2).split(",")}
+    return taken
 
 
 def plan():
@@ -106,7 +118,7 @@ def plan():
     return names, fields, locals_of
 
 
-def turn(text, names, fields, comment):
+def turn(text, names, fields, comment, members=frozenset()):
     """Comments change only between backticks. In src/ and in paths a name in snake case is that of a function or a module, and stays."""
     out = []
     respelled = {k: v for k, v in names.items() if "-" in k or re.search(r"[a-z0-9'][A-Z]", k)}
@@ -128,7 +140,7 @@ def turn(text, names, fields, comment):
                 if path.startswith("Rattle."):
                     return respelled.get(t, t)
                 return fields.get(t, names.get(t, t) if re.match(r"^[A-Z]\w*\.$", path) else t)
-            if t in fields and (re.match(r"\s*=\s", whole[m.end() :]) and re.search(r"[{;,]\s*$|^\s*$", whole[: m.start()]) or re.match(r"\s+(pub )?$", whole[: m.start()]) and re.match(r"[^=]* : | :$", whole[m.end() :])):
+            if t in fields and (re.match(r"\s*=\s", whole[m.end() :]) and re.search(r"[{;,]\s*$|^\s*$", whole[: m.start()]) or t in members and re.match(r"\s+(pub )?$", whole[: m.start()]) and re.match(r"[^=]* : | :$", whole[m.end() :])):
                 return fields[t]
             return names.get(t, fields.get(t, t))
 
@@ -162,6 +174,13 @@ def clash(path, text, names, fields):
     return bad
 
 
+def mine(path, text, names, locals_of, walks):
+    """The names to turn in a file. What a walk declares for itself, goals among them, keeps its name; so does what comes from the library."""
+    here = {**names, **locals_of.get(path, {})}
+    own = of_others(text) | (declared(path)[0] if path in walks else set())
+    return {k: v for k, v in here.items() if k not in own}
+
+
 def main(argv):
     names, fields, locals_of = plan()
     if argv == ["--list"]:
@@ -174,11 +193,7 @@ def main(argv):
     for p in specs + lemmas + walks + sources:
         with open(p, encoding="utf-8") as f:
             text = f.read()
-        here = {**names, **locals_of.get(p, {})}
-        if p in walks:
-            # What a walk declares for itself, goals among them, keeps its name.
-            own = declared(p)[0]
-            here = {k: v for k, v in names.items() if k not in own}
+        here = mine(p, text, names, locals_of, walks)
         bad += clash(p, text, here, fields)
     for b in bad:
         print("falls together: %s: %s and %s, as %s" % b)
@@ -187,11 +202,8 @@ def main(argv):
     for p in specs + lemmas + walks + sources:
         with open(p, encoding="utf-8") as f:
             text = f.read()
-        here = {**names, **locals_of.get(p, {})}
-        if p in walks:
-            own = declared(p)[0]
-            here = {k: v for k, v in names.items() if k not in own}
-        done = turn(text, here, fields, "//" if p.endswith(".rt") else "--")
+        here = mine(p, text, names, locals_of, walks)
+        done = turn(text, here, fields, "//" if p.endswith(".rt") else "--", declared(p)[1] if p.endswith(".antt") else frozenset())
         if done != text:
             with open(p, "w", encoding="utf-8") as f:
                 f.write(done)

@@ -22,7 +22,7 @@ use Rattle.sheet_writer.specs.RefusalLines.{RefusalWritten}
 use Rattle.sheet_writer.specs.AnyHead.{plan_any_text, plan_any_sheet_verdict, PlanAnyWritten}
 use Rattle.answer_plan.specs.declared.PlannedList.{PlannedList}
 use Rattle.answer_plan.specs.PlannedLists.{WrittenBy}
-use Rattle.answer_plan.proofs.Answered.{verdict_is, holds, list_refused_lem, text-handed, given}
+use Rattle.answer_plan.proofs.Answered.{verdict_is, holds, list_refused_lem, text_handed, given}
 use Rattle.answer_any.specs.AnyRun.{any_checks, any_verdict, room_after, room_left, SheetRecalledAny, SheetAnswered}
 use Rattle.answer_any.specs.AnyLists.{RunListedAny, TextOfList}
 use Rattle.answer_any.proofs.Planned.{room_kept, any_judged}
@@ -63,8 +63,8 @@ module _ (sheet : List ℕ) (r : SheetRun) (is : r ≡ run_by_value sheet) (room
   room_of_sheet = room_is (refuses v) refl
 
   -- What a refusal leaves, for a caller.
-  pub answer_refused_here : f ≡ true → (row : List ℕ) (w : Written) → w ≡ written_of l.verdict 0 → SheetAnswered sheet row room w row room'
-  answer_refused_here e row w w-is =
+  pub answer_refused : f ≡ true → (row : List ℕ) (w : Written) → w ≡ written_of l.verdict 0 → SheetAnswered sheet row room w row room'
+  answer_refused e row w w-is =
       let so : refuses v ≡ true = verdict_says ∙ e in
       record {
         refused = λ q. record { says = w-is ∙ rw (sym f-is ∙ e) (ap refused_writing (list_refused_lem checks sheet r is l lists.listed so)); kept = refl };
@@ -78,7 +78,7 @@ module _ (sheet : List ℕ) (r : SheetRun) (is : r ≡ run_by_value sheet) (room
       let so : refuses v ≡ false = verdict_says ∙ e in
       record {
         refused = λ q. absurd (true≢false (sym q ∙ sym (ap refuses (verdict_is checks sheet r is)) ∙ so));
-        planned = λ q. text-handed checks sheet r is judge_any_of any_rule LeastAny plan_any_text any_meets (any_judged (length room)) l lists.listed so row w row' written;
+        planned = λ q. text_handed checks sheet r is judge_any_of any_rule LeastAny plan_any_text any_meets (any_judged (length room)) l lists.listed so row w row' written;
         cleared = room_is false so;
       }
 

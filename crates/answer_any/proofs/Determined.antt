@@ -15,7 +15,7 @@ use Rattle.sheet_writer.specs.AnyHead.{plan_any_text}
 use Rattle.sheet_writer.proofs.Sheets.{handed_determined}
 use Rattle.answer_plan.specs.declared.PlannedList.{PlannedList}
 use Rattle.answer_plan.specs.PlannedLists.{in_list, TextHanded}
-use Rattle.answer_plan.proofs.Determined.{given-once}
+use Rattle.answer_plan.proofs.Determined.{given_once}
 use Rattle.answer_any.specs.AnyRun.{any_verdict, PlanAnyOf, SheetRecalledAny, SheetAnswered}
 use Rattle.answer_any.specs.AnyLists.{ListsAny}
 
@@ -30,7 +30,7 @@ plan_any_once name run text text' p q =
 pub recall_any_determined : (sheet row room : List ℕ) (n n' : ℕ) (row' row'' room' room'' : List ℕ) → SheetRecalledAny sheet row room n row' room' → SheetRecalledAny sheet row room n' row'' room''
     → (n ≡ n') × ((row' ≡ row'') × (room' ≡ room''))
 recall_any_determined sheet row room n n' row' row'' room' room'' p q =
-    let same = given-once PlanAnyOf plan_any_once _ _ _ row n n' row' row'' p.given q.given in
+    let same = given_once PlanAnyOf plan_any_once _ _ _ row n n' row' row'' p.given q.given in
     (same.0, (same.1, p.cleared ∙ sym q.cleared))
 
 handed_once : (name : List ℕ) (run : Run) (row : List ℕ) (w w' : Written) (row' row'' : List ℕ) → TextHanded (PlanAnyOf name run) row w row' → TextHanded (PlanAnyOf name run) row w' row'' → (w ≡ w') × (row' ≡ row'')

@@ -13,7 +13,7 @@ use Rattle.runs.specs.Run.{Run, stops_of}
 use Rattle.runs.specs.Alone.{zeros}
 use Rattle.runs.specs.AnyHead.{judge_any_of, lifted}
 use Rattle.runs.proofs.AnyHead.{accepted_any}
-use Rattle.runs.proofs.Stops.{stops-few}
+use Rattle.runs.proofs.Stops.{stops_few}
 use Rattle.walk.specs.declared.Answer.{Answer}
 use Rattle.walk.specs.Price.{refusal_answer}
 use Rattle.walk.specs.AnyHead.{priced_any_answer}
@@ -24,7 +24,7 @@ use Rattle.sheet_runs.specs.declared.SheetRun.{SheetRun}
 use Rattle.sheet_runs.specs.SheetRuns.{run_held}
 use Rattle.answer_plan.specs.declared.PlannedList.{PlannedList}
 use Rattle.answer_plan.specs.PlannedLists.{in_list}
-use Rattle.answer_plan.proofs.Planned.{listed_in, by_value, same_value, unlisted, run-listed}
+use Rattle.answer_plan.proofs.Planned.{listed_in, by_value, same_value, unlisted, run_listed}
 use Rattle.answer_any.specs.AnyRun.{any_checks, room_after}
 use Rattle.answer_any.specs.AnyLists.{RunListedAny}
 use Rattle.answer_any.specs.Private.{RowsPlanned}
@@ -56,7 +56,7 @@ module _ (run : Run) (rows : Rows) (lent : Lent rows) where
       go false e =
           let good = (accepted_any run e).run in
           let few = good.wants.few in
-          let stops = stops-few (lifted run) good in
+          let stops = stops_few (lifted run) good in
           rw (e, le-ltb (length rows.times) (length run.numbers) (omega (arith, few, lent.times)), le-ltb (length rows.legs) (length run.numbers) (omega (arith, few, lent.legs)), le-ltb (length rows.froms) (length (stops_of run) - 1) (omega (arith, few, stops, lent.froms)), le-ltb (length rows.tos) (length (stops_of run) - 1) (omega (arith, few, stops, lent.tos)))
 
   -- The planner's answer and its list by value, where it was lent rows of zeros for that.
@@ -68,9 +68,9 @@ module _ (run : Run) (rows : Rows) (lent : Lent rows) where
     room_is true e = ap (λ x. x.room) (plans.refused (ap refuses any_verdict_here ∙ e)).kept ∙ sym (room_kept v run rows.room e)
     room_is false e = ap (λ x. x.room) (plans.planned (ap refuses any_verdict_here ∙ e)).rows ∙ sym (room_cleared v run rows.room e)
 
-    pub rows_planned_here : RowsPlanned run rows.room (by_value a after.froms after.tos) after.room
+    pub rows_planned : RowsPlanned run rows.room (by_value a after.froms after.tos) after.room
     unfolding priced_any_answer
-    rows_planned_here =
+    rows_planned =
         record {
           listed =
               record {
@@ -104,7 +104,7 @@ module _ (r : SheetRun) (room : List ℕ) (f : Bool) (f-is : f ≡ is_refusal r.
   pub any_listed : f ≡ false → (run : Run) → run ≡ run_held r → (l : PlannedList) (room' : List ℕ) → RowsPlanned run room l room' → RunListedAny r room l room'
   any_listed e run is l room' p =
       record {
-        listed = run-listed (any_checks (length room)) r f f-is e run is l p.listed;
+        listed = run_listed (any_checks (length room)) r f f-is e run is l p.listed;
         cleared =
             p.cleared ∙ ap (λ x. room_after (first_of (any_checks (length room) x)) x room) is
             ∙ ap (λ v. room_after v (run_held r) room) (sym (first_passes r.verdict (any_checks (length room) (run_held r)) (sym f-is ∙ e)));

@@ -80,8 +80,8 @@ module _ (sheet : List ℕ) (words : ℕ) (enough : room_words ≤ words) (place
   unfolding verdict_by
   accepts e = (all_accept (sheet_verdict sheet ∷ rule_verdict sheet ∷ run_checks (sheet_run sheet)) e).1.1.0
 
-  plan_same : refuses (recall_verdict sheet) ≡ false → (text : List ℕ) → PlanAnyOf (sheet_name sheet) (sheet_run sheet) text → PlanOf (sheet_name sheet) (sheet_run sheet) text
-  plan_same e text p =
+  plan_same_here : refuses (recall_verdict sheet) ≡ false → (text : List ℕ) → PlanAnyOf (sheet_name sheet) (sheet_run sheet) text → PlanOf (sheet_name sheet) (sheet_run sheet) text
+  plan_same_here e text p =
       let run = sheet_run sheet in
       record {
         list = p.list;
@@ -99,7 +99,7 @@ module _ (sheet : List ℕ) (words : ℕ) (enough : room_words ≤ words) (place
         answers =
             record {
               refused = λ e. rw v-is at (g.answers.refused (ap refuses v-is ∙ e));
-              planned = λ e. plan_same e g.text (g.answers.planned (ap refuses v-is ∙ e));
+              planned = λ e. plan_same_here e g.text (g.answers.planned (ap refuses v-is ∙ e));
             };
         bytes = g.bytes;
         left = g.left;

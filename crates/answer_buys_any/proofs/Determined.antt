@@ -12,7 +12,7 @@ use Rattle.sheet_writer.specs.declared.Written.{Written}
 use Rattle.sheet_writer.specs.Writing.{row_verdict, Handed}
 use Rattle.sheet_writer.proofs.Sheets.{handed_determined}
 use Rattle.sheet_figures.specs.AnyHead.{figure_any_text}
-use Rattle.answer_plan.proofs.Determined.{given-once}
+use Rattle.answer_plan.proofs.Determined.{given_once}
 use Rattle.answer_any.specs.AnyRun.{any_verdict}
 use Rattle.answer_buys_any.specs.AnyBuys.{BuysAnyOf, SheetBoughtAny, SheetFiguredAny}
 
@@ -27,7 +27,7 @@ buys_any_once name run text text' p q =
 pub buys_any_determined : (sheet row room : List ℕ) (n n' : ℕ) (row' row'' room' room'' : List ℕ) → SheetBoughtAny sheet row room n row' room' → SheetBoughtAny sheet row room n' row'' room''
     → (n ≡ n') × ((row' ≡ row'') × (room' ≡ room''))
 buys_any_determined sheet row room n n' row' row'' room' room'' p q =
-    let same = given-once BuysAnyOf buys_any_once _ _ _ row n n' row' row'' p.given q.given in
+    let same = given_once BuysAnyOf buys_any_once _ _ _ row n n' row' row'' p.given q.given in
     (same.0, (same.1, p.cleared ∙ sym q.cleared))
 
 pub figured_any_determined : (sheet row room : List ℕ) (w w' : Written) (row' row'' room' room'' : List ℕ) → SheetFiguredAny sheet row room w row' room' → SheetFiguredAny sheet row room w' row'' room''

@@ -18,11 +18,11 @@ use Rattle.sheet_writer.specs.RefusalLines.{RefusalWritten}
 use Rattle.sheet_figures.specs.AnyHead.{figure_any_text, figure_any_sheet_verdict, FigureAnyWritten}
 use Rattle.answer_plan.specs.declared.PlannedList.{PlannedList}
 use Rattle.answer_plan.specs.PlannedLists.{WrittenBy}
-use Rattle.answer_plan.proofs.Answered.{verdict_is, list_refused_lem, text-handed, given}
+use Rattle.answer_plan.proofs.Answered.{verdict_is, list_refused_lem, text_handed, given}
 use Rattle.answer_any.specs.AnyRun.{any_checks}
 use Rattle.answer_any.specs.AnyLists.{RunListedAny}
 use Rattle.answer_any.proofs.Planned.{any_judged}
-use Rattle.answer_any.proofs.Answered.{any_rule, any_meets, room-of-sheet}
+use Rattle.answer_any.proofs.Answered.{any_rule, any_meets, room_of_sheet}
 use Rattle.answer_buys_any.specs.AnyBuys.{SheetBoughtAny, SheetFiguredAny}
 use Rattle.answer_buys_any.specs.Private.{FiguresOfList}
 
@@ -48,7 +48,7 @@ module _ (sheet : List ℕ) (r : SheetRun) (is : r ≡ run_by_value sheet) (room
       record {
         refused = λ q. record { says = w-is ∙ rw (sym f-is ∙ e) (ap refused_writing (list_refused_lem checks sheet r is l lists.listed so)); kept = refl };
         figured = λ q. absurd (true≢false (sym so ∙ ap refuses (verdict_is checks sheet r is) ∙ q));
-        cleared = room-of-sheet sheet r is room l room' lists f f-is;
+        cleared = room_of_sheet sheet r is room l room' lists f f-is;
       }
 
   pub figures_written : f ≡ false → (row : List ℕ) (w : Written) (row' : List ℕ) → FiguresOfList sheet r l row w row' → SheetFiguredAny sheet row room w row' room'
@@ -57,8 +57,8 @@ module _ (sheet : List ℕ) (r : SheetRun) (is : r ≡ run_by_value sheet) (room
       let so : refuses v ≡ false = verdict_says ∙ e in
       record {
         refused = λ q. absurd (true≢false (sym q ∙ sym (ap refuses (verdict_is checks sheet r is)) ∙ so));
-        figured = λ q. text-handed checks sheet r is judge_any_of any_rule LeastAny figure_any_text any_meets (any_judged (length room)) l lists.listed so row w row' written;
-        cleared = room-of-sheet sheet r is room l room' lists f f-is;
+        figured = λ q. text_handed checks sheet r is judge_any_of any_rule LeastAny figure_any_text any_meets (any_judged (length room)) l lists.listed so row w row' written;
+        cleared = room_of_sheet sheet r is room l room' lists f f-is;
       }
 
   -- For a program.
@@ -67,7 +67,7 @@ module _ (sheet : List ℕ) (r : SheetRun) (is : r ≡ run_by_value sheet) (room
   bought row n row' written =
       record {
         given = given checks sheet r is judge_any_of any_rule LeastAny figure_any_text any_meets (any_judged (length room)) l lists.listed row n row' (record { text = written.text; bytes = written.bytes; refused = written.refused; planned = written.planned });
-        cleared = room-of-sheet sheet r is room l room' lists f f-is;
+        cleared = room_of_sheet sheet r is room l room' lists f f-is;
       }
 
   pub bought_refused : f ≡ true → (row : List ℕ) (w : Written) (row' : List ℕ) → RefusalWritten l.verdict row w row' → SheetBoughtAny sheet row room w.bytes row' room'

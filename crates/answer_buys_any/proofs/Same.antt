@@ -13,15 +13,15 @@ use Rattle.sheet_reader.specs.Sheet.{sheet_run, sheet_name}
 use Rattle.sheet_figures.proofs.Figures.{text_same}
 use Rattle.answer_plan.specs.Recall.{room_words, recall_verdict}
 use Rattle.answer_any.specs.AnyRun.{any_verdict}
-use Rattle.answer_any.proofs.Same.{verdict-same, accepts}
+use Rattle.answer_any.proofs.Same.{verdict_same, accepts}
 use Rattle.answer_buys.specs.Buys.{BuysText, SheetBought}
 use Rattle.answer_buys.proofs.Determined.{buys_determined}
 use Rattle.answer_buys_any.specs.AnyBuys.{BuysAnyOf, SheetBoughtAny}
 
 module _ (sheet : List ℕ) (words : ℕ) (enough : room_words ≤ words) (place : (recall_verdict sheet).refusal ≡ HeadPlace → ⊥) (room : (recall_verdict sheet).refusal ≡ ShortRoom → ⊥) where
   -- The least list from where the head stands is 01's, and so is its figure sheet.
-  figures_same : refuses (recall_verdict sheet) ≡ false → (text : List ℕ) → BuysAnyOf (sheet_name sheet) (sheet_run sheet) text → BuysText (sheet_name sheet) (sheet_run sheet) text
-  figures_same e text p =
+  figures_same_here : refuses (recall_verdict sheet) ≡ false → (text : List ℕ) → BuysAnyOf (sheet_name sheet) (sheet_run sheet) text → BuysText (sheet_name sheet) (sheet_run sheet) text
+  figures_same_here e text p =
       let run = sheet_run sheet in
       let judged = accepts sheet words enough place room e in
       record {
@@ -33,14 +33,14 @@ module _ (sheet : List ℕ) (words : ℕ) (enough : room_words ≤ words) (place
   pub bought_same : (row lent : List ℕ) (n n' : ℕ) (row' row'' lent' : List ℕ) → length lent ≡ words → SheetBought sheet row n row' → SheetBoughtAny sheet row lent n' row'' lent' → (n ≡ n') × (row' ≡ row'')
   bought_same row lent n n' row' row'' lent' is p q =
       let g = q.given in
-      let v-is : any_verdict (length lent) sheet ≡ recall_verdict sheet = rw is (verdict-same sheet words enough place room) in
+      let v-is : any_verdict (length lent) sheet ≡ recall_verdict sheet = rw is (verdict_same sheet words enough place room) in
       let other : SheetBought sheet row n' row'' =
       record {
         text = g.text;
         answers =
             record {
               refused = λ e. rw v-is at (g.answers.refused (ap refuses v-is ∙ e));
-              figured = λ e. figures_same e g.text (g.answers.planned (ap refuses v-is ∙ e));
+              figured = λ e. figures_same_here e g.text (g.answers.planned (ap refuses v-is ∙ e));
             };
         bytes = g.bytes;
         left = g.left;

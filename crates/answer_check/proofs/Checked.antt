@@ -31,7 +31,7 @@ use Rattle.sheet_writer.specs.AnyHead.{plan_any_text, PlanAnyWritten}
 use Rattle.sheet_writer.specs.RefusalLines.{refusal_text}
 use Rattle.sheet_lists.specs.Form.{plan_froms, plan_tos}
 use Rattle.sheet_lists.specs.Reading.{plan_form}
-use Rattle.sheet_lists.proofs.AnyTrip.{any-short}
+use Rattle.sheet_lists.proofs.AnyTrip.{any_short}
 use Rattle.answer_plan.specs.declared.PlannedList.{PlannedList}
 use Rattle.answer_plan.specs.Recall.{verdict_by}
 use Rattle.answer_plan.specs.PlannedLists.{in_list, ListIn}
@@ -47,7 +47,7 @@ use Rattle.answer_check.specs.RunRules.{head_anywhere}
 use Rattle.answer_check.specs.Checking.{formed_no, same_list, least_line, verdict_lines, check_text, verdict_on, room_checked, VerdictOf, SheetChecked, CheckAnswered}
 use Rattle.answer_check.specs.Private.{HandedIn, list_checks, PricedList, first_refusal, run_under, Checkable, PageWritten, verdict_by as linesBy, PageOf, PageIs, PlanChecked}
 use Rattle.answer_check.proofs.Formed.{plan_even, plan_long}
-use Rattle.answer_check.proofs.Prices.{handed_holds, row_decides, sheet-ok, in_order, first_says}
+use Rattle.answer_check.proofs.Prices.{handed_holds, row_decides, sheet_ok, in_order, first_says}
 
 -- A list of starts and ends of one number.
 module _ (run : Run) (froms tos : List ℕ) (even : length froms ≡ length tos) where
@@ -135,8 +135,8 @@ module _ (name : List ℕ) (run : Run) (plan : List ℕ) (l least : PlannedList)
     rules_pass : refuses (first_of (list_checks run froms tos)) ≡ false
     rules_pass = test_says priced.verdict f-is passed
 
-    list_good : refuses (list_verdict_any run.head (stops_of run) froms tos) ≡ false
-    list_good = (all_accept (list_checks run froms tos) rules_pass).1.0
+    list_good_here : refuses (list_verdict_any run.head (stops_of run) froms tos) ≡ false
+    list_good_here = (all_accept (list_checks run froms tos) rules_pass).1.0
 
     sum_is : p.sum ≡ (priced_any_answer run (list_of froms tos)).sum
     sum_is = priced.sum rules_pass
@@ -148,7 +148,7 @@ module _ (name : List ℕ) (run : Run) (plan : List ℕ) (l least : PlannedList)
       -- The least sum is not larger.
       pub least_below : best.sum ≤ p.sum
       unfolding priced_any_answer
-      least_below = omega (arith, sum_is, best_is, ok.planned.least.smallest (list_of froms tos) (entry_none run froms tos ok.even list_good))
+      least_below = omega (arith, sum_is, best_is, ok.planned.least.smallest (list_of froms tos) (entry_none run froms tos ok.even list_good_here))
 
       -- The sheet that is expected.
       module _ (sheet : List ℕ) (r : SheetRun) (run_is : run_held r ≡ run) (name_is : read_name sheet ≡ name) (page : PlanPage) (written : PageWritten sheet r l page) where
@@ -156,11 +156,11 @@ module _ (name : List ℕ) (run : Run) (plan : List ℕ) (l least : PlannedList)
         text = plan_any_text name run froms tos
 
         short : length text ≤ 7644
-        short = any-short run froms tos ok.judged list_good name ok.named
+        short = any_short run froms tos ok.judged list_good_here name ok.named
 
         handed : Handed (row_verdict text (zeros 7644)) text (zeros 7644) page.written page.text
         handed =
-            subst (λ v. Handed v text (zeros 7644) page.written page.text) (row_decides name run froms tos (zeros 7644) ok.named ok.judged list_good)
+            subst (λ v. Handed v text (zeros 7644) page.written page.text) (row_decides name run froms tos (zeros 7644) ok.named ok.judged list_good_here)
             (moved PlanAnyWritten name_is run_is refl refl written)
 
         fits : row_verdict text (zeros 7644) ≡ accepted
@@ -171,28 +171,28 @@ module _ (name : List ℕ) (run : Run) (plan : List ℕ) (l least : PlannedList)
         unfolding written_answer
         bytes_are = ap (λ x. x.bytes) handed.answer ∙ rw fits refl
 
-        page_is : page.text ≡ text ++ drop (length text) (zeros 7644)
+        page_is_here : page.text ≡ text ++ drop (length text) (zeros 7644)
         unfolding written_row
-        page_is = handed.left ∙ rw fits refl
+        page_is_here = handed.left ∙ rw fits refl
 
         expected_is : take page.written.bytes page.text ≡ text
-        expected_is = rw (bytes_are, page_is) (take-append_seam text (drop (length text) (zeros 7644)))
+        expected_is = rw (bytes_are, page_is_here) (take-append_seam text (drop (length text) (zeros 7644)))
 
         pub expected_inside : page.written.bytes ≤ length page.text
-        expected_inside = omega (arith, bytes_are, ap length page_is, length-append text (drop (length text) (zeros 7644)))
+        expected_inside = omega (arith, bytes_are, ap length page_is_here, length-append text (drop (length text) (zeros 7644)))
 
         pub expected_short : length (take page.written.bytes page.text) ≤ 7644
         expected_short = omega (arith, ap length expected_is, short)
 
-        pub list_formed_here : (same : Bool) → same ≡ (is_text (take least.detours least.froms) froms && is_text (take least.detours least.tos) tos) → (v : VerdictPage)
+        pub list_formed : (same : Bool) → same ≡ (is_text (take least.detours least.froms) froms && is_text (take least.detours least.tos) tos) → (v : VerdictPage)
             → PageIs (linesBy plan (take page.written.bytes page.text) same (p.sum - best.sum)) v → PageOf (VerdictOf head_anywhere name run plan froms tos) v
-        list_formed_here same same-is v is =
+        list_formed same same-is v is =
             record {
               within = is.within;
               says = record {
                 list = ok.planned.list;
                 least = ok.planned.least;
-                says = is.says ∙ formed_text name run plan froms tos ok.planned.list (entry_none run froms tos ok.even list_good) _ expected_is same (same-is ∙ rw (least_starts run least ok.planned, least_ends run least ok.planned) refl) p.sum sum_is best.sum best_is;
+                says = is.says ∙ formed_text name run plan froms tos ok.planned.list (entry_none run froms tos ok.even list_good_here) _ expected_is same (same-is ∙ rw (least_starts run least ok.planned, least_ends run least ok.planned) refl) p.sum sum_is best.sum best_is;
               };
             }
 
@@ -228,7 +228,7 @@ module _ (sheet plan room : List ℕ) (r : SheetRun) (is : r ≡ run_by_value sh
   verdict_is_here =
       ap (λ x. first_of (x ∷ checks (run_held r))) w-is ∙ grouped r.verdict l.verdict (checks (run_held r))
       ∙ ap (λ x. first_refusal r.verdict (first_refusal x (first_of (checks (run_held r))))) handed.verdict
-      ∙ in_order sheet r is (plan_form plan) (first_of (checks (run_held r))) (checks (sheet_run sheet)) (λ e _. ap (λ x. first_of (checks x)) (sheet-ok sheet r is e).run)
+      ∙ in_order sheet r is (plan_form plan) (first_of (checks (run_held r))) (checks (sheet_run sheet)) (λ e _. ap (λ x. first_of (checks x)) (sheet_ok sheet r is e).run)
 
   least_says : least.verdict ≡ verdict_on (length room) sheet plan
   least_says = planner_says ∙ verdict_is_here
@@ -259,7 +259,7 @@ module _ (sheet plan room : List ℕ) (r : SheetRun) (is : r ≡ run_by_value sh
     pub checkable : Checkable (read_name sheet) (run_held r) plan l least
     checkable =
         record {
-          named = (sheet-ok sheet r is early.0).named;
+          named = (sheet_ok sheet r is early.0).named;
           judged = all.1.0;
           short = plan_long plan form;
           form = early.1;
@@ -270,7 +270,7 @@ module _ (sheet plan room : List ℕ) (r : SheetRun) (is : r ≡ run_by_value sh
     pub checked_page : (p : VerdictPage) → PageOf (VerdictOf head_anywhere (read_name sheet) (run_held r) plan (take l.detours l.froms) (take l.detours l.tos)) p
         → (c : CheckedPage) → c.verdict ≡ least.verdict → c.bytes ≡ p.bytes → c.text ≡ p.text → PlanChecked sheet plan room c room'
     checked_page p page c v-is b-is t-is =
-        let h = sheet-ok sheet r is early.0 in
+        let h = sheet_ok sheet r is early.0 in
         let by-run = subst (λ x. VerdictOf head_anywhere (read_name sheet) x plan (take l.detours l.froms) (take l.detours l.tos) (take p.bytes p.text)) h.run page.says in
         let by_name = subst (λ x. VerdictOf head_anywhere x (sheet_run sheet) plan (take l.detours l.froms) (take l.detours l.tos) (take p.bytes p.text)) h.name by-run in
         let by-starts = subst (λ x. VerdictOf head_anywhere (sheet_name sheet) (sheet_run sheet) plan x (take l.detours l.tos) (take p.bytes p.text)) (handed.starts form) by_name in
@@ -287,8 +287,8 @@ module _ (sheet plan room : List ℕ) (p : CheckedPage) (room' : List ℕ) (c : 
   abbrev said : Verdict
   said = verdict_on (length room) sheet plan
 
-  pub answer_refused_here : f ≡ true → (row : List ℕ) (w : Written) → w ≡ written_of p.verdict 0 → CheckAnswered sheet plan row room w row room'
-  answer_refused_here e row w w-is =
+  pub answer_refused : f ≡ true → (row : List ℕ) (w : Written) → w ≡ written_of p.verdict 0 → CheckAnswered sheet plan row room w row room'
+  answer_refused e row w w-is =
       let t : refuses said ≡ true = test_says c.verdict f-is e in
       record {
         refused = λ q. record { says = w-is ∙ rw (sym f-is ∙ e) (ap refused_writing c.verdict); kept = refl };

@@ -35,15 +35,15 @@ module _ (rules : RunRules) (one : (run : Run) (list list' : List Detour) → ru
   verdict_once_here text text' p q = p.says ∙ ap (check_text rules name run plan froms tos) (one run p.list q.list p.least q.least) ∙ sym q.says
 
   -- One text answers.
-  pub answer_once_here : (text text' : List ℕ) → AnswersCheck rules v name run plan froms tos text → AnswersCheck rules v name run plan froms tos text' → text ≡ text'
-  answer_once_here text text' p q = go (is_refusal v.refusal) refl
+  pub answer_once : (text text' : List ℕ) → AnswersCheck rules v name run plan froms tos text → AnswersCheck rules v name run plan froms tos text' → text ≡ text'
+  answer_once text text' p q = go (is_refusal v.refusal) refl
     where
       go : (b : Bool) → is_refusal v.refusal ≡ b → text ≡ text'
       go true e = p.refused e ∙ sym (q.refused e)
       go false e = verdict_once_here text text' (p.checked e) (q.checked e)
 
   pub checked_once : (row : List ℕ) (n n' : ℕ) (row' row'' : List ℕ) → Checked rules v name run plan froms tos row n row' → Checked rules v name run plan froms tos row n' row'' → (n ≡ n') × (row' ≡ row'')
-  checked_once row n n' row' row'' p q = held_once p.text q.text row (answer_once_here p.text q.text p.answers q.answers) n n' row' row'' p.holds q.holds
+  checked_once row n n' row' row'' p q = held_once p.text q.text row (answer_once p.text q.text p.answers q.answers) n n' row' row'' p.holds q.holds
 
 pub one_least : (run : Run) (list list' : List Detour) → LeastAny run list → LeastAny run list' → list ≡ list'
 one_least run list list' p q = least_any_unique run.turn run.head (stops_of run) list list' p q

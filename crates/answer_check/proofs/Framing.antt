@@ -12,8 +12,8 @@ use Rattle.answer_check.specs.Checking.{CheckGiven, room_checked, SheetChecked}
 use Rattle.answer_check.specs.Inputs.{framed_input, bad_input, AnsweredIn, room_in, InputChecked}
 
 module _ (Answers : List ℕ → List ℕ → List ℕ → ℕ → List ℕ → Type 0) (input : List ℕ) (f : Framed) (f-is : f ≡ framed_input input) where
-  pub framed_bad_here : f ≡ Framed.Bad → (row : List ℕ) (n : ℕ) (row' : List ℕ) → RowHolds (refusal_text bad_input) row n row' → AnsweredIn Answers input (framed_input input) row n row'
-  framed_bad_here e row n row' h = subst (λ x. AnsweredIn Answers input x row n row') (sym e ∙ f-is) h
+  pub framed_bad : f ≡ Framed.Bad → (row : List ℕ) (n : ℕ) (row' : List ℕ) → RowHolds (refusal_text bad_input) row n row' → AnsweredIn Answers input (framed_input input) row n row'
+  framed_bad e row n row' h = subst (λ x. AnsweredIn Answers input x row n row') (sym e ∙ f-is) h
 
   pub framed_texts : (from to : ℕ) → f ≡ Framed.Sheet from to → (sheet other : List ℕ) → sheet ≡ part_in input from to → other ≡ part_in input to (length input)
       → (row : List ℕ) (n : ℕ) (row' : List ℕ) → Answers sheet other row n row' → AnsweredIn Answers input (framed_input input) row n row'
@@ -25,7 +25,7 @@ module _ (Answers : List ℕ → List ℕ → List ℕ → ℕ → List ℕ → 
 module _ (input : List ℕ) (f : Framed) (f-is : f ≡ framed_input input) where
   pub checked_bad : f ≡ Framed.Bad → (row room : List ℕ) (n : ℕ) (row' : List ℕ) → RowHolds (refusal_text bad_input) row n row' → InputChecked input row room n row' room
   checked_bad e row room n row' h =
-      record { given = framed_bad_here (CheckGiven head_anywhere (length room)) input f f-is e row n row' h; cleared = ap (λ x. room_in input x room) (sym e ∙ f-is) }
+      record { given = framed_bad (CheckGiven head_anywhere (length room)) input f f-is e row n row' h; cleared = ap (λ x. room_in input x room) (sym e ∙ f-is) }
 
   pub checked_texts : (from to : ℕ) → f ≡ Framed.Sheet from to → (sheet plan : List ℕ) → sheet ≡ part_in input from to → plan ≡ part_in input to (length input)
       → (row room : List ℕ) (n : ℕ) (row' room' : List ℕ) → SheetChecked sheet plan row room n row' room' → InputChecked input row room n row' room'

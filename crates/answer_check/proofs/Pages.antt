@@ -10,9 +10,9 @@ use Rattle.text_bytes.specs.Text.{line_feed, has, before, starts_with, is_text}
 use Rattle.text_lines.specs.declared.Keyed.{Keyed}
 use Rattle.text_lines.specs.Lines.{line_of}
 use Rattle.text_lines.specs.Found.{ValueAt, ValueFound}
-use Rattle.text_lines.proofs.Passing.{unkeyed, value-at}
+use Rattle.text_lines.proofs.Passing.{unkeyed, value_at}
 use Rattle.text_pages.specs.Printing.{line, number_line, Wrote, Put}
-use Rattle.text_pages.proofs.Pages.{wrote-within, wrote-both, wrote-long}
+use Rattle.text_pages.proofs.Pages.{wrote_within, wrote_both, wrote_long}
 use Rattle.answer_check.specs.declared.Difference.{Difference}
 use Rattle.answer_check.specs.declared.VerdictPage.{VerdictPage}
 use Rattle.answer_check.specs.Checking.{formed_yes, walk_yes, walk_no, least_yes, least_no, found_key, expected_key, first_difference, walk_line, difference_lines}
@@ -32,7 +32,7 @@ module _ (text : List ℕ) (start : ℕ) (r : Keyed) (found : ValueFound [] text
 
   module _ (from end : ℕ) (e : r ≡ Keyed.Text from end) where
     at_value : ValueAt [] text start from end
-    at_value = value-at [] text start r found from end e
+    at_value = value_at [] text start r found from end e
 
     pub line_ordered : from ≤ end
     line_ordered = at_value.ordered
@@ -55,12 +55,12 @@ pub line_put : (page : List ℕ) (at : ℕ) (key text short whole page' : List �
     → Put page at (line key short) (length key + length short + 1) page' next → Wrote page at (line key whole) (length key + length text + 1) page' next
 line_put page at key text short whole page' next e l r p =
     let w = p.room (omega arith) in
-    rw (← e) (wrote-within w (length key + length text + 1) (omega arith))
+    rw (← e) (wrote_within w (length key + length text + 1) (omega arith))
 
 -- One text or another, on a page with room for either.
 pub kind_put : (page : List ℕ) (at : ℕ) (text whole : List ℕ) (few most : ℕ) (page' : List ℕ) (next : ℕ) → whole ≡ text → few ≤ most → at + most ≤ length page
     → Put page at text few page' next → Wrote page at whole most page' next
-kind_put page at text whole few most page' next e l r p = rw e (wrote-within (p.room (omega arith)) most l)
+kind_put page at text whole few most page' next e l r p = rw e (wrote_within (p.room (omega arith)) most l)
 
 -- Which line it is.
 pub walk_is : (plan expected : List ℕ) (b : Bool) → b ≡ is_text expected plan → b ≡ true → walk_line plan expected ≡ walk_yes
@@ -89,25 +89,25 @@ least_not b by e = rw e
 -- Two texts one behind the other are a third.
 pub both_put : (page : List ℕ) (at : ℕ) (a : List ℕ) (m : ℕ) (page₁ : List ℕ) (next : ℕ) (b : List ℕ) (n : ℕ) (page₂ : List ℕ) (last : ℕ) (whole : List ℕ) → whole ≡ a ++ b
     → Wrote page at a m page₁ next → Wrote page₁ next b n page₂ last → Wrote page at whole (m + n) page₂ last
-both_put page at a m page₁ next b n page₂ last whole e w v = rw e (wrote-both w v)
+both_put page at a m page₁ next b n page₂ last whole e w v = rw e (wrote_both w v)
 
 -- The whole verdict.
 pub verdict_put : (plan expected : List ℕ) (least : Bool) (by : ℕ) (page₀ : List ℕ) (page₁ : List ℕ) (at₁ : ℕ) (page₂ : List ℕ) (at₂ : ℕ) (page₃ : List ℕ) (at₃ : ℕ) (page₄ : List ℕ) (at₄ : ℕ)
     → 70 + difference_most plan expected ≤ length page₀ → Put page₀ 0 formed_yes (length formed_yes) page₁ at₁ → Wrote page₁ at₁ (walk_line plan expected) 29 page₂ at₂ → Wrote page₂ at₂ (least_line_by least by) 30 page₃ at₃
     → Wrote page₃ at₃ (difference_lines plan expected) (difference_most plan expected) page₄ at₄ → Wrote page₀ 0 (verdict_by plan expected least by) (70 + difference_most plan expected) page₄ at₄
 verdict_put plan expected least by page₀ page₁ at₁ page₂ at₂ page₃ at₃ page₄ at₄ r p w v u =
-    wrote-within (wrote-both (wrote-both (wrote-both (p.room (omega arith)) w) v) u) (70 + difference_most plan expected) (omega arith)
+    wrote_within (wrote_both (wrote_both (wrote_both (p.room (omega arith)) w) v) u) (70 + difference_most plan expected) (omega arith)
 
 -- Room that is left behind a text.
 pub room_left_lem : (page : List ℕ) (at : ℕ) (text : List ℕ) (most : ℕ) (page' : List ℕ) (next : ℕ) (more : ℕ) → at + (most + more) ≤ length page → Wrote page at text most page' next → next + more ≤ length page'
-room_left_lem page at text most page' next more r w = omega (arith, w.within, wrote-long w (omega arith))
+room_left_lem page at text most page' next more r w = omega (arith, w.within, wrote_long w (omega arith))
 
 pub room_put : (page : List ℕ) (at : ℕ) (text : List ℕ) (few most : ℕ) (page' : List ℕ) (next : ℕ) (more : ℕ) → few ≤ most → at + (most + more) ≤ length page → Put page at text few page' next → next + more ≤ length page'
-room_put page at text few most page' next more l r p = room_left_lem page at text most page' next more r (wrote-within (p.room (omega arith)) most l)
+room_put page at text few most page' next more l r p = room_left_lem page at text most page' next more r (wrote_within (p.room (omega arith)) most l)
 
 -- A text that was put on a page, by value.
 pub page_put : (page text : List ℕ) (most : ℕ) (page' : List ℕ) (n : ℕ) → most ≤ length page → Wrote page 0 text most page' n → PageIs text (record { bytes = n; text = page' })
-page_put page text most page' n l w = record { within = omega (arith, w.within, wrote-long w (omega arith)); says = w.bytes }
+page_put page text most page' n l w = record { within = omega (arith, w.within, wrote_long w (omega arith)); says = w.bytes }
 
 -- Whether two rows are two others, one after the other.
 not_so : (b : Bool) → not b ≡ true → b ≡ false

@@ -21,7 +21,7 @@ use Rattle.sheet_reader.specs.Sheet.{sheet_run, sheet_name}
 use Rattle.sheet_reader.specs.Reading.{sheet_verdict, rule_verdict, read_name}
 use Rattle.sheet_runs.specs.declared.SheetRun.{SheetRun}
 use Rattle.sheet_runs.specs.SheetRuns.{run_by_value, run_held}
-use Rattle.sheet_runs.proofs.Runs.{SheetHolds, refused-first, sheet-holds}
+use Rattle.sheet_runs.proofs.Runs.{SheetHolds, refused_first, sheet_holds}
 use Rattle.sheet_writer.specs.declared.Written.{Written}
 use Rattle.sheet_writer.specs.Writing.{row_verdict, Handed}
 use Rattle.sheet_writer.specs.AnyHead.{plan_any_text, plan_any_sheet_verdict, PlanAnyWritten}
@@ -29,7 +29,7 @@ use Rattle.sheet_writer.specs.RefusalLines.{refusal_text}
 use Rattle.sheet_writer.proofs.Sheets.{last_verdict}
 use Rattle.answer_plan.specs.declared.PlannedList.{PlannedList}
 use Rattle.answer_plan.specs.Recall.{verdict_by}
-use Rattle.answer_plan.proofs.Planned.{handed-bytes, handed-row}
+use Rattle.answer_plan.proofs.Planned.{handed_bytes, handed_row}
 use Rattle.answer_plan.proofs.Answered.{moved}
 use Rattle.answer_any.specs.AnyLists.{TextOfList}
 use Rattle.sheet_lists.specs.Form.{list_froms, list_tos}
@@ -71,7 +71,7 @@ priced_held r l run e froms tos f t long rows times legs a is =
 
 -- A text handed out is held.
 pub handed_holds : (text row : List ℕ) (w : Written) (row' : List ℕ) → Handed (row_verdict text row) text row w row' → RowHolds text row w.bytes row'
-handed_holds text row w row' h = record { bytes = handed-bytes text row w row' h; left = handed-row text row w row' h }
+handed_holds text row w row' h = record { bytes = handed_bytes text row w row' h; left = handed_row text row w row' h }
 
 -- The writer's checks on a run and a list that pass: only that of the row is left.
 pub row_decides : (name : List ℕ) (run : Run) (froms tos row : List ℕ) → is_name name ≡ true → refuses (judge_any_of run) ≡ false → refuses (list_verdict_any run.head (stops_of run) froms tos) ≡ false
@@ -108,14 +108,14 @@ judged_by r l p priced w e v f = rw (f, e, priced.verdict)
 -- The verdict on a run sheet and another text, from those on the sheet's run, on the text's form and on both together.
 module _ (sheet : List ℕ) (r : SheetRun) (is : r ≡ run_by_value sheet) where
   pub sheet_ok : refuses r.verdict ≡ false → SheetHolds sheet r
-  sheet_ok e = sheet-holds sheet r is false (sym e) refl
+  sheet_ok e = sheet_holds sheet r is false (sym e) refl
 
   pub in_order : (form last : Verdict) (checks : List Verdict) → (refuses r.verdict ≡ false → refuses form ≡ false → last ≡ first_of checks)
       → first_refusal r.verdict (first_refusal form last) ≡ first_of (sheet_verdict sheet ∷ rule_verdict sheet ∷ form ∷ checks)
   in_order form last checks rest = go (refuses r.verdict) refl (refuses form) refl
     where
       go : (a : Bool) → refuses r.verdict ≡ a → (b : Bool) → refuses form ≡ b → first_refusal r.verdict (first_refusal form last) ≡ first_of (sheet_verdict sheet ∷ rule_verdict sheet ∷ form ∷ checks)
-      go true e b f = sym (stays r.verdict (first_refusal form last) e) ∙ refused-first sheet r is true (sym e) refl (form ∷ checks)
+      go true e b f = sym (stays r.verdict (first_refusal form last) e) ∙ refused_first sheet r is true (sym e) refl (form ∷ checks)
       go false e true f = sym (passes r.verdict (first_refusal form last) e) ∙ sym (stays form last f) ∙ first_refuses form checks f ∙ (sheet_ok e).decides (form ∷ checks)
       go false e false f = sym (passes r.verdict (first_refusal form last) e) ∙ sym (passes form last f) ∙ rest e f ∙ sym (first_passes form checks f) ∙ (sheet_ok e).decides (form ∷ checks)
 

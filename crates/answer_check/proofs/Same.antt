@@ -15,7 +15,7 @@ use Rattle.runs.proofs.Search.{true_or_false}
 use Rattle.runs.proofs.Judged.{accepted_run}
 use Rattle.runs.proofs.Stops.{accepted_sound}
 use Rattle.runs.proofs.AnyHead.{Right, sound_right, entries_same, list_any_same, judge_any_same}
-use Rattle.walk.proofs.AnyHead.{priced-same}
+use Rattle.walk.proofs.AnyHead.{priced_same}
 use Rattle.least.specs.Least.{LeastForRun}
 use Rattle.least.proofs.LeastList.{least_unique}
 use Rattle.least.proofs.LeastAny.{least_any_same}
@@ -24,13 +24,13 @@ use Rattle.sheet_reader.specs.Reading.{sheet_verdict, rule_verdict}
 use Rattle.sheet_writer.proofs.Plans.{text_same}
 use Rattle.answer_plan.specs.Recall.{room_words, run_checks, verdict_by}
 use Rattle.answer_any.specs.AnyRun.{any_checks}
-use Rattle.answer_any.proofs.Same.{run-same}
+use Rattle.answer_any.proofs.Same.{run_same}
 use Rattle.sheet_lists.specs.Form.{plan_froms, plan_tos, list_froms, list_tos}
 use Rattle.sheet_lists.specs.Reading.{plan_form, list_form}
 use Rattle.answer_check.specs.RunRules.{head_anywhere, head_at_the_right}
 use Rattle.answer_check.specs.Pricing.{pricing_verdict, price_text, PriceGiven, price_checks}
 use Rattle.answer_check.specs.Checking.{least_line, verdict_lines, check_text, check_verdict, check_checks, VerdictOf, CheckGiven}
-use Rattle.answer_check.proofs.Determined.{held_once, checked-once}
+use Rattle.answer_check.proofs.Determined.{held_once, checked_once}
 
 -- A run that 01 accepts: the rules are the same, and so is what they give.
 module _ (run : Run) (accepts : refuses (judge_of run) ≡ false) where
@@ -39,7 +39,7 @@ module _ (run : Run) (accepts : refuses (judge_of run) ≡ false) where
 
   lines_same : (plan expected froms tos : List ℕ) (list : List Detour) → verdict_lines head_anywhere plan expected run froms tos list ≡ verdict_lines head_at_the_right plan expected run froms tos list
   unfolding verdict_lines least_line
-  lines_same plan expected froms tos list = rw (priced-same run (accepted_run run accepts) (list_of froms tos), priced-same run (accepted_run run accepts) list)
+  lines_same plan expected froms tos list = rw (priced_same run (accepted_run run accepts) (list_of froms tos), priced_same run (accepted_run run accepts) list)
 
   check_same : (name plan froms tos : List ℕ) (list : List Detour) → check_text head_anywhere name run plan froms tos list ≡ check_text head_at_the_right name run plan froms tos list
   unfolding check_text
@@ -128,7 +128,7 @@ module _ (sheet plan : List ℕ) (words : ℕ) (enough : room_words ≤ words) (
   pub checking_same : check_verdict head_anywhere words sheet plan ≡ v
   checking_same =
       behind_same (any_checks words) run_checks (plan_form plan) sheet
-      (λ is. run-same (sheet_run sheet) words enough (λ at. place (ap (λ x. x.refusal) is ∙ at)) (λ at. room (ap (λ x. x.refusal) is ∙ at)))
+      (λ is. run_same (sheet_run sheet) words enough (λ at. place (ap (λ x. x.refusal) is ∙ at)) (λ at. room (ap (λ x. x.refusal) is ∙ at)))
 
   passes : refuses v ≡ false → refuses (judge_of (sheet_run sheet)) ≡ false
   unfolding verdict_by
@@ -149,4 +149,4 @@ module _ (sheet plan : List ℕ) (words : ℕ) (enough : room_words ≤ words) (
             };
         holds = q.holds;
       } in
-      checked-once head_at_the_right one_01 v (sheet_name sheet) (sheet_run sheet) plan (plan_froms plan) (plan_tos plan) row n n' row' row'' p other
+      checked_once head_at_the_right one_01 v (sheet_name sheet) (sheet_run sheet) plan (plan_froms plan) (plan_tos plan) row n n' row' row'' p other

@@ -12,7 +12,7 @@ use Rattle.refusals.specs.Refusals.{is_refusal, accepted}
 use Rattle.runs.proofs.Search.{true_or_false}
 use Rattle.walk.specs.declared.Answer.{Answer}
 use Rattle.planner.specs.Rows.{Rows}
-use Rattle.planner.proofs.Determined.{plan-determined}
+use Rattle.planner.proofs.Determined.{plan_determined}
 use Rattle.desk_tickets.specs.declared.Ticket.{Ticket}
 use Rattle.desk_tickets.specs.declared.Filing.{Filing}
 use Rattle.desk_tickets.specs.declared.Withdrawal.{Withdrawal}
@@ -34,7 +34,7 @@ module _ (len : ℕ) (tape : Tape) (row : List Ticket) (b : Boarding) (before : 
 
   planned_once_here : RunPlanned tape row b before r after → RunPlanned tape row b before s after' → (r ≡ s) × (after ≡ after')
   planned_once_here p q =
-      let same = plan-determined (board_run tape row b) before r.boarded.answer s.boarded.answer after after' p.plans q.plans in
+      let same = plan_determined (board_run tape row b) before r.boarded.answer s.boarded.answer after after' p.plans q.plans in
       (p.says ∙ ap (boarded_by row b.lasts) same.0 ∙ sym q.says, same.1)
 
   pub boards_once : Boards len tape row b before r after → Boards len tape row b before s after' → (r ≡ s) × (after ≡ after')
@@ -52,8 +52,8 @@ module _ (day : Day) (o : Outcome) (room out : List ℕ) (r s : Answered) (room'
   tells_once : Tells o out r room' out' → Tells o out s room'' out'' → (r ≡ s) × ((room' ≡ room'') × (out' ≡ out''))
   tells_once p q = (p.says ∙ sym q.says, (p.left ∙ sym q.left, p.handed ∙ sym q.handed))
 
-  answers_once : AnswersEvent day o room out r room' out' → AnswersEvent day o room out s room'' out'' → (r ≡ s) × ((room' ≡ room'') × (out' ≡ out''))
-  answers_once p q =
+  answers_once_here : AnswersEvent day o room out r room' out' → AnswersEvent day o room out s room'' out'' → (r ≡ s) × ((room' ≡ room'') × (out' ≡ out''))
+  answers_once_here p q =
       ⊎_elim
       (λ (y : is_refusal o.verdict.refusal ≡ true). refuses_once o.verdict (p.refused y) (q.refused y))
       (λ (n : is_refusal o.verdict.refusal ≡ false).
@@ -71,7 +71,7 @@ module _ (len : ℕ) (tape : Tape) (day : Day) (room out : List ℕ) (r s : Answ
       let moved : AnswersEvent day (boarding_outcome day.row q.done q.rows) room out r room' out'
       = subst (λ (y : Rows). AnswersEvent day (boarding_outcome day.row q.done y) room out r room' out') same.1
       (subst (λ (x : BoardedRow). AnswersEvent day (boarding_outcome day.row x p.rows) room out r room' out') same.0 p.answers) in
-      answers_once day _ room out r s room' room'' out' out'' moved q.answers
+      answers_once_here day _ room out r s room' room'' out' out'' moved q.answers
 
   -- One that leaves the room alone.
   beside_once : (o : List ℕ → Outcome)
@@ -79,17 +79,17 @@ module _ (len : ℕ) (tape : Tape) (day : Day) (room out : List ℕ) (r s : Answ
       → ((x : List ℕ) → AnswersEvent day (o x) x out s x out'') × (room'' ≡ room)
       → (r ≡ s) × ((room' ≡ room'') × (out' ≡ out''))
   beside_once o p q =
-      let same = answers_once day (o room) room out r s room room out' out'' (p.0 room) (q.0 room) in
+      let same = answers_once_here day (o room) room out r s room room out' out'' (p.0 room) (q.0 room) in
       (same.0, (p.1 ∙ sym q.1, same.1.1))
 
   -- Two results that fit the contract are equal.
-  pub answer_determined_here : (event : Event) → EventAnswered len tape day room out event r room' out' → EventAnswered len tape day room out event s room'' out''
+  pub answer_determined : (event : Event) → EventAnswered len tape day room out event r room' out' → EventAnswered len tape day room out event s room'' out''
       → (r ≡ s) × ((room' ≡ room'') × (out' ≡ out''))
-  answer_determined_here (Event.File o f c) p q =
+  answer_determined (Event.File o f c) p q =
       let filing : Filing = record { office = o; file = f; count = c; files = length tape.starts; lasts = day.lasts } in
       beside_once (filing_outcome filing (file_row len day.row filing)) p q
-  answer_determined_here (Event.Withdraw o n) p q =
+  answer_determined (Event.Withdraw o n) p q =
       let withdrawal : Withdrawal = record { office = o; number = n; lasts = day.lasts } in
       beside_once (withdrawal_outcome withdrawal (withdraw_row len day.row withdrawal)) p q
-  answer_determined_here (Event.Board h t) p q = boarding_once (record { head = h; turn = t; lasts = day.lasts }) p q
-  answer_determined_here Event.Bad p q = refuses_once day (record { verdict = accepted; next = day; text = []; left = room }) room out r s room' room'' out' out'' _ p q
+  answer_determined (Event.Board h t) p q = boarding_once (record { head = h; turn = t; lasts = day.lasts }) p q
+  answer_determined Event.Bad p q = refuses_once day (record { verdict = accepted; next = day; text = []; left = room }) room out r s room' room'' out' out'' _ p q

@@ -13,7 +13,7 @@ use Rattle.refusals.proofs.Verdicts.{refuses}
 use Rattle.runs.proofs.Search.{true_or_false}
 use Rattle.planner.specs.Rows.{Rows}
 use Rattle.text_pages.specs.Printing.{pair_lines, Wrote}
-use Rattle.text_pages.proofs.Pages.{wrote-both, wrote-within}
+use Rattle.text_pages.proofs.Pages.{wrote_both, wrote_within}
 use Rattle.sheet_writer.specs.PlanSheet.{detour_key}
 use Rattle.desk_tickets.specs.declared.Ticket.{Ticket}
 use Rattle.desk_tickets.specs.WaitingTable.{all_places, places, waiting, records_verdict, Sound}
@@ -23,7 +23,7 @@ use Rattle.desk_boardings.specs.declared.Boarded.{Boarded}
 use Rattle.desk_boardings.specs.declared.BoardedRow.{BoardedRow}
 use Rattle.desk_boardings.specs.Boarders.{share_one, share_two, boarders}
 use Rattle.desk_boardings.specs.Boardings.{Tape, Boards, taken_of}
-use Rattle.desk_boardings.proofs.Who.{share_within, shares_fit, front-one, front-two}
+use Rattle.desk_boardings.proofs.Who.{share_within, shares_fit, front_one, front_two}
 use Rattle.answer_desk.specs.declared.Reads.{Reads}
 use Rattle.answer_desk.specs.Answers.{most_text, closed_lines, boarded_top, boarded_text}
 use Rattle.answer_desk.specs.Private.{places_text, Leaving}
@@ -75,7 +75,7 @@ module _ (len : ℕ) (tape : Tape) (row : List Ticket) (all : length row ≡ all
         record {
           one = rw one_is (omega (arith, shares_fit a c));
           two = rw two_is (omega (arith, shares_fit a c));
-          who = rw (one_is, two_is, front-one b.lasts (waiting 1 row) (waiting 2 row) row sound (share_one row) (share_within a c), front-two b.lasts (waiting 1 row) (waiting 2 row) row sound (share_two row) (share_within c a));
+          who = rw (one_is, two_is, front_one b.lasts (waiting 1 row) (waiting 2 row) row sound (share_one row) (share_within a c), front_two b.lasts (waiting 1 row) (waiting 2 row) row sound (share_two row) (share_within c a));
         }
 
 -- The first lines, the detours and the tickets, one behind the other.
@@ -88,8 +88,8 @@ pub places_wrote : (row : List Ticket) (b : Boarded) (froms tos : List ℕ) (rea
     → Wrote page 0 (places_text row b froms tos reads) most_text page₄ at₄
 unfolding places_text
 places_wrote row b froms tos reads n e one two page page₁ page₂ page₃ page₄ at₁ at₂ at₃ at₄ p q r s =
-    let w = wrote-both (wrote-both (wrote-both p q) r) s in
-    wrote-within
+    let w = wrote_both (wrote_both (wrote_both p q) r) s in
+    wrote_within
     (subst (λ m. Wrote page 0
     (boarded_top b.taken b.answer ++ pair_lines detour_key (take m froms) (take m tos) ++ closed_lines reads (take b.taken.one (drop 0 row)) ++ closed_lines reads (take b.taken.two (drop places row)))
     (157 + n * 49 + b.taken.one * 133 + b.taken.two * 133) page₄ at₄) e w)

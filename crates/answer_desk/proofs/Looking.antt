@@ -11,7 +11,7 @@ use lib.Seq.{drop-cons, get_or-take, get_or-drop, length-take-le}
 use Rattle.desk_tickets.specs.declared.Ticket.{Ticket}
 use Rattle.desk_tickets.specs.WaitingTable.{no_ticket}
 use Rattle.text_pages.specs.Printing.{pair_line, pair_lines, Wrote}
-use Rattle.text_pages.proofs.Pages.{pairs-left, pairs-over}
+use Rattle.text_pages.proofs.Pages.{pairs_left, pairs_over}
 use Rattle.sheet_writer.specs.PlanSheet.{detour_key}
 use Rattle.answer_desk.specs.declared.Reads.{Reads}
 use Rattle.answer_desk.specs.Answers.{place_in, value_for, ticket_line, closed_line, closed_lines}
@@ -34,8 +34,8 @@ pub record Sought (file : ℕ) (ns : List ℕ) (i : ℕ) : Type 0 where
   pub so : place_in file ns ≡ i + place_in file (drop i ns)
 
 module _ (file : ℕ) (ns : List ℕ) where
-  pub sought_none_here : Sought file ns 0
-  sought_none_here = record { within = omega arith; so = omega arith }
+  pub sought_none : Sought file ns 0
+  sought_none = record { within = omega arith; so = omega arith }
 
   at_place : (i : ℕ) → i < length ns → place_in file (drop i ns) ≡ place_in file (get_or ns i 0 ∷ drop (suc i) ns)
   at_place i l = ap (place_in file) (drop-cons ns i 0 l)
@@ -87,23 +87,23 @@ module _ (n : ℕ) (froms tos : List ℕ) (few : n ≤ 8) (f : length froms ≡ 
       → pair_lines detour_key (drop i (take n froms)) (drop i (take n tos))
       ≡ pair_line detour_key (get_or froms i 0) (get_or tos i 0) ++ pair_lines detour_key (drop (i + 1) (take n froms)) (drop (i + 1) (take n tos))
   detours_left l =
-      pairs-left detour_key (take n froms) (take n tos) even i (rw front l)
+      pairs_left detour_key (take n froms) (take n tos) even i (rw front l)
       ∙ ap (λ x. pair_line detour_key x (get_or (take n tos) i 0) ++ pair_lines detour_key (drop (i + 1) (take n froms)) (drop (i + 1) (take n tos))) (get_or-take n froms i 0 l)
       ∙ ap (λ x. pair_line detour_key (get_or froms i 0) x ++ pair_lines detour_key (drop (i + 1) (take n froms)) (drop (i + 1) (take n tos))) (get_or-take n tos i 0 l)
 
   pub detours_over : n ≤ i → pair_lines detour_key (drop i (take n froms)) (drop i (take n tos)) ≡ []
-  detours_over l = pairs-over detour_key (take n froms) (take n tos) even i (rw front l)
+  detours_over l = pairs_over detour_key (take n froms) (take n tos) even i (rw front l)
 
 -- The lines of n tickets of a row, from place `first` on, that are left.
 module _ (reads : Reads) (row : List Ticket) (all : length row ≡ 32) (first n : ℕ) (fits : first + n ≤ 32) (i : ℕ) where
-  tickets_long : length (take n (drop first row)) ≡ n
-  tickets_long = length-take-le n (drop first row) (rw (length-drop first row, all) (omega arith))
+  tickets_long_here : length (take n (drop first row)) ≡ n
+  tickets_long_here = length-take-le n (drop first row) (rw (length-drop first row, all) (omega arith))
 
   pub tickets_left : i < n
       → closed_lines reads (drop i (take n (drop first row))) ≡ closed_line reads (get_or row (first + i) no_ticket) ++ closed_lines reads (drop (i + 1) (take n (drop first row)))
   tickets_left l =
-      closed_left reads (take n (drop first row)) i (rw tickets_long l) (get_or row (first + i) no_ticket)
+      closed_left reads (take n (drop first row)) i (rw tickets_long_here l) (get_or row (first + i) no_ticket)
       (sym (get_or-take n (drop first row) i no_ticket l ∙ get_or-drop first row i no_ticket))
 
   pub tickets_over : n ≤ i → closed_lines reads (drop i (take n (drop first row))) ≡ []
-  tickets_over l = closed_over reads (take n (drop first row)) i (rw tickets_long l)
+  tickets_over l = closed_over reads (take n (drop first row)) i (rw tickets_long_here l)

@@ -15,8 +15,8 @@ module _ (key event : List ℕ) (r : PairLine) (found : PairLineFound key event 
   pair_at_here : (a b n : ℕ) → r ≡ PairLine.Both a b n → PairAt key event 0 a b n
   pair_at_here a b n e = subst (λ x. PairLineFound key event 0 x) e found
 
-  pub no_pair_here : r ≡ PairLine.Bad → is_pair_line key (line_of event) ≡ false
-  no_pair_here e = subst (λ x. PairLineFound key event 0 x) e found
+  pub no_pair : r ≡ PairLine.Bad → is_pair_line key (line_of event) ≡ false
+  no_pair e = subst (λ x. PairLineFound key event 0 x) e found
 
 module _ (event : List ℕ) where
   pub withdraw_found : (r : PairLine) → PairLineFound withdraw_key event 0 r → (a b n : ℕ) → r ≡ PairLine.Both a b n → Event.Withdraw a b ≡ pair_event_of (line_of event)

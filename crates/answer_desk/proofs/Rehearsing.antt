@@ -26,8 +26,8 @@ use Rattle.answer_desk.specs.Answers.{most_text, verdict_in}
 use Rattle.answer_desk.specs.Days.{refused_answer, answered_by, rows_lent, boarded_day, boarding_text, boarding_outcome, BoardingAnswered}
 use Rattle.answer_desk.specs.Private.{TextSaid, BoardedNow, SaysSo, Rehearsed, Needed}
 use Rattle.answer_desk.proofs.Saying.{tells}
-use Rattle.answer_desk.proofs.Rooms.{in_room, boards-elsewhere}
-use Rattle.answer_desk.proofs.Determined.{boards-once}
+use Rattle.answer_desk.proofs.Rooms.{in_room, boards_elsewhere}
+use Rattle.answer_desk.proofs.Determined.{boards_once}
 
 -- A refused boarding leaves every row.
 pub refused_rows : (len : ℕ) (tape : Tape) (row : List Ticket) (b : Boarding) (before after : Rows) (r : BoardedRow) → Boards len tape row b before r after → is_refusal r.boarded.answer.refusal ≡ true → after ≡ before
@@ -69,7 +69,7 @@ module _ (len : ℕ) (tape : Tape) (day : Day) (b : Boarding) (room out : List �
 pub rehearsed : (len : ℕ) (tape : Tape) (day : Day) (b : Boarding) (mine own : List ℕ) (r : Answered) (mine' own' : List ℕ) (words : ℕ)
     → BoardedNow len tape day b mine own r mine' own' → length mine ≡ min words 65600 → length own ≡ most_text → Rehearsed len tape day b words r.bytes
 rehearsed len tape day b mine own r mine' own' words now size takes room is =
-    let other = boards-elsewhere len tape day.row b mine room (size ∙ ap (λ n. min n 65600) (sym is)) now.done now.rows now.boards in
+    let other = boards_elsewhere len tape day.row b mine room (size ∙ ap (λ n. min n 65600) (sym is)) now.done now.rows now.boards in
     let whole : is_refusal now.done.boarded.answer.refusal ≡ false → r.bytes ≡ length (boarding_text day.row now.done now.rows)
     = λ n. ap (λ (x : Answered). x.bytes) (now.told n (omega (arith, now.most n, takes))).says in
     record {
@@ -109,7 +109,7 @@ module _ (len : ℕ) (tape : Tape) (day : Day) (b : Boarding) (room out : List �
     where
       by_text : SaysSo len tape day b room n → length (boarding_text day.row now.done now.rows) ≤ length out
       by_text s =
-          let same = boards-once len tape day.row b (rows_lent room) s.done now.done s.rows now.rows s.boards now.boards in
+          let same = boards_once len tape day.row b (rows_lent room) s.done now.done s.rows now.rows s.boards now.boards in
           let text : boarding_text day.row s.done s.rows ≡ boarding_text day.row now.done now.rows
           = ap (λ (x : BoardedRow). boarding_text day.row x s.rows) same.0 ∙ ap (λ (y : Rows). boarding_text day.row now.done y) same.1 in
           let said = s.some (ap (λ (x : BoardedRow). is_refusal x.boarded.answer.refusal) same.0 ∙ e) in

@@ -18,7 +18,7 @@ use Rattle.runs.specs.Run.{Run, total, stops_of}
 use Rattle.runs.specs.Judging.{judge_of}
 use Rattle.runs.proofs.Judged.{accepted_run}
 use Rattle.runs.proofs.Search.{true_or_false}
-use Rattle.runs.proofs.Stops.{stops-few}
+use Rattle.runs.proofs.Stops.{stops_few}
 use Rattle.walk.specs.Price.{refusal_answer}
 use Rattle.planner.specs.Plan.{plan_verdict, room_for, rows_with, Plans}
 use Rattle.planner.specs.Rows.{Rows, rows_of}
@@ -55,7 +55,7 @@ pub room_few : (tape : Tape) (row : List Ticket) (b : Boarding) → refuses (jud
 room_few tape row b e =
     let run = board_run tape row b in
     let good = accepted_run run e in
-    product_few (length (stops_of run)) (total run.counts) (omega (arith, stops-few run good, wants_few tape row b)) good.wants.reads
+    product_few (length (stops_of run)) (total run.counts) (omega (arith, stops_few run good, wants_few tape row b)) good.wants.reads
 
 -- Whether a room is too short, by the lesser of its length and 65,600.
 short_alike : (a q : ℕ) → q ≤ 65600 → ltb (min a 65600) q ≡ ltb a q

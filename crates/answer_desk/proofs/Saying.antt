@@ -32,9 +32,9 @@ module _ (text out : List ℕ) (w : Written) (out' : List ℕ) (h : Handed (row_
   unfolding row_verdict written_answer written_row
   handed_whole l = (h.answer ∙ rw (le-ltb (length out) (length text) l), h.left ∙ rw (le-ltb (length out) (length text) l))
 
-  handed_none : length out < length text → (w ≡ record { refusal = ShortRow; place = 0; bytes = 0 }) × (out' ≡ out)
+  handed_none_here : length out < length text → (w ≡ record { refusal = ShortRow; place = 0; bytes = 0 }) × (out' ≡ out)
   unfolding row_verdict written_answer written_row
-  handed_none l = (h.answer ∙ rw (lt-ltb (length out) (length text) l), h.left ∙ rw (lt-ltb (length out) (length text) l))
+  handed_none_here l = (h.answer ∙ rw (lt-ltb (length out) (length text) l), h.left ∙ rw (lt-ltb (length out) (length text) l))
 
 -- The answer by what was written.
 module _ (day : Day) (o : Outcome) (out : List ℕ) (w : Written) (out' : List ℕ) (h : Handed (row_verdict o.text out) o.text out w out') (r : Answered) (says : r ≡ answered_by day o.next w) where
@@ -45,7 +45,7 @@ module _ (day : Day) (o : Outcome) (out : List ℕ) (w : Written) (out' : List �
 
   too_short : length out < length o.text → (room : List ℕ) → Refuses (record { refusal = ShortRow; place = 0 }) day room out r room out'
   too_short l room =
-      let none = handed_none o.text out w out' h l in
+      let none = handed_none_here o.text out w out' h l in
       record { says = says ∙ ap (answered_by day o.next) none.0; same_room = refl; same_row = none.1 }
 
 -- An event that does not work in the room.

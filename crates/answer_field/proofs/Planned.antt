@@ -14,11 +14,11 @@ use Rattle.runs.specs.Run.{Run, stops_of}
 use Rattle.runs.specs.Alone.{zeros}
 use Rattle.runs.specs.Judging.{judge_of}
 use Rattle.runs.proofs.Judged.{accepted_run}
-use Rattle.runs.proofs.Stops.{stops-few}
+use Rattle.runs.proofs.Stops.{stops_few}
 use Rattle.walk.specs.declared.Answer.{Answer}
 use Rattle.walk.specs.Price.{refusal_answer, priced_answer}
 use Rattle.engine_plain.specs.Plain.{PlainRows, short_plain_rows, plain_verdict, PlainPlanned, PlainPlans}
-use Rattle.engine_plain.proofs.Checks.{first_of_both, second_of_both, run-passed, run_few}
+use Rattle.engine_plain.proofs.Checks.{first_of_both, second_of_both, run_passed, run_few}
 use Rattle.answer_plan.proofs.Planned.{listed_in, by_value, same_value}
 use Rattle.answer_field.specs.Field.{field_checks}
 use Rattle.answer_field.specs.Private.{RowsFielded}
@@ -35,7 +35,7 @@ module _ (run : Run) (rows : PlainRows) (lent : Lent rows) where
   none_short : refuses (first_of (field_checks run)) ≡ false → short_plain_rows (length run.numbers) (length (stops_of run)) rows ≡ false
   none_short e =
       let few = run_few run e in
-      let stops = stops-few run (accepted_run run (run-passed run e)) in
+      let stops = stops_few run (accepted_run run (run_passed run e)) in
       rw (le-ltb (length rows.times) (length run.numbers) (omega (arith, few, lent.times)), le-ltb (length rows.legs) (length run.numbers) (omega (arith, few, lent.legs)), le-ltb (length rows.froms) (length (stops_of run) - 1) (omega (arith, few, stops, lent.froms)), le-ltb (length rows.tos) (length (stops_of run) - 1) (omega (arith, few, stops, lent.tos)))
 
   run_verdict : plain_verdict run rows ≡ first_of (field_checks run)

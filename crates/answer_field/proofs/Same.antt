@@ -37,9 +37,9 @@ run_fits run e few =
     (both_pass (judge_of run) [] e refl)))
 
 module _ (sheet : List ℕ) (accepts : refuses (recall_verdict sheet) ≡ false) (few : length (sheet_run sheet).numbers ≤ 8) where
-  checks_pass : refuses (first_of (sheet_verdict sheet ∷ rule_verdict sheet ∷ field_checks (sheet_run sheet))) ≡ false
+  checks_pass_here : refuses (first_of (sheet_verdict sheet ∷ rule_verdict sheet ∷ field_checks (sheet_run sheet))) ≡ false
   unfolding verdict_by
-  checks_pass =
+  checks_pass_here =
       let all = all_accept (sheet_verdict sheet ∷ rule_verdict sheet ∷ run_checks (sheet_run sheet)) accepts in
       both_pass (sheet_verdict sheet) (rule_verdict sheet ∷ field_checks (sheet_run sheet)) all.0
       (both_pass (rule_verdict sheet) (field_checks (sheet_run sheet)) all.1.0 (run_fits (sheet_run sheet) all.1.1.0 few))
@@ -47,7 +47,7 @@ module _ (sheet : List ℕ) (accepts : refuses (recall_verdict sheet) ≡ false)
   same_verdict_here : verdict_by field_checks sheet ≡ recall_verdict sheet
   unfolding verdict_by
   same_verdict_here =
-      none_refuses (sheet_verdict sheet ∷ rule_verdict sheet ∷ field_checks (sheet_run sheet)) checks_pass
+      none_refuses (sheet_verdict sheet ∷ rule_verdict sheet ∷ field_checks (sheet_run sheet)) checks_pass_here
       ∙ sym (none_refuses (sheet_verdict sheet ∷ rule_verdict sheet ∷ run_checks (sheet_run sheet)) accepts)
 
   pub same_sheet : (row : List ℕ) (n n' : ℕ) (row' row'' : List ℕ) → SheetRecalled sheet row n row' → SheetFielded sheet row n' row'' → (n ≡ n') × (row' ≡ row'')

@@ -13,7 +13,7 @@ use Rattle.text_bytes.proofs.Decimals.{has_none, decimal_without}
 use Rattle.text_lines.specs.Lines.{line_of}
 use Rattle.text_pages.specs.Printing.{number_line}
 use Rattle.sheet_reader.specs.Lines.{tape_key, is_tape_line}
-use Rattle.sheet_writer.proofs.Reread.{line_first, line_behind_lem, key_begins, key_value, number-back, value-back}
+use Rattle.sheet_writer.proofs.Reread.{line_first, line_behind_lem, key_begins, key_value, number_back, value_back}
 use Rattle.answer_ltfs.specs.Input.{label_key, index_key, is_counted, counted_text, after_counted, is_framed}
 use Rattle.answer_ltfs.specs.Framed.{input_text, InputTakenApart}
 
@@ -29,9 +29,9 @@ counted_back key text rest plain small =
     let flat : has line_feed (decimal (length text)) ≡ false = decimal_without line_feed (length text) refl in
     let first = line_first key (decimal (length text)) (text ++ rest) plain flat in
     let more = line_behind_lem key (decimal (length text)) (text ++ rest) plain flat in
-    let value = value-back key (length text) small in
+    let value = value_back key (length text) small in
     record {
-      good = rw (first, more, number-back key (length text) small, value, le-leb (length text) (length (text ++ rest)) (rw (length-append text rest) (omega arith)));
+      good = rw (first, more, number_back key (length text) small, value, le-leb (length text) (length (text ++ rest)) (rw (length-append text rest) (omega arith)));
       same = rw (first, more, value) (take_at text rest (length text) refl);
       after = rw (first, more, value) (drop_at text rest (length text) refl);
     }

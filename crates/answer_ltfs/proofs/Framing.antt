@@ -1,7 +1,7 @@
 -- An input taken apart and its answer put together: where the texts stand, what the checks say, and the two rows that are left.
 use Prim.Native.Nat.{ℕ, zero, suc, ◌+◌, ◌-◌, ◌≤◌, ◌<◌}
 use mathlib.Core.Path.{◌≡◌, refl, ap, sym, ◌∙◌, subst}
-use mathlib.Core.Bool.{Bool, true, false, cond, not, ◌&&◌, ◌||◌, and-false, or_true}
+use mathlib.Core.Bool.{Bool, true, false, cond, not, ◌&&◌, ◌||◌, and-false, or-true}
 use mathlib.Core.List.{List, [], ◌∷◌, ◌++◌}
 use native.Mathlib.Omega.{arith}
 use lib.ListN.{length, take, drop, length-append, length-drop}
@@ -17,7 +17,7 @@ use Rattle.text_lines.specs.declared.NumberLine.{NumberLine}
 use Rattle.text_lines.specs.Lines.{line_of, is_number_line, number_behind}
 use Rattle.text_lines.specs.Found.{Passed, NumberLineFound}
 use Rattle.text_pages.specs.Printing.{number_line, Wrote, Put}
-use Rattle.text_pages.proofs.Pages.{wrote_on, wrote-page}
+use Rattle.text_pages.proofs.Pages.{wrote_on, wrote_page}
 use Rattle.sheet_reader.specs.declared.NameLine.{NameLine}
 use Rattle.sheet_reader.specs.Lines.{tape_key, is_tape_line}
 use Rattle.sheet_reader.specs.Sheet.{longest_sheet}
@@ -32,7 +32,7 @@ use Rattle.answer_ltfs.specs.declared.input.Texts.{Texts}
 use Rattle.answer_ltfs.specs.TapeTable.{ltfs_sheet, ltfs_verdict, tape_verdict, refused_report, ltfs_report, ltfs_row}
 use Rattle.answer_ltfs.specs.Input.{most_tape_input, label_key, index_key, empty_key, other_key, is_counted, counted_text, after_counted, framed_label, framed_index, is_framed, bad_frame, input_name, input_label, input_index, tape_input_verdict, answer_text, left_out_text, report_text, rows_short, BothHanded}
 use Rattle.answer_ltfs.specs.Private.Input.{CountedAt, CountedFound, TextsAt, TextsFound, input_report, Drafted}
-use Rattle.answer_ltfs.proofs.Promise.{tape-checks, sheet-within, row_suffices}
+use Rattle.answer_ltfs.proofs.Promise.{tape-checks, sheet_within, row_suffices}
 
 -- A line with a key and a number, and so many bytes behind it.
 module _ (key input : List ℕ) (at : ℕ) (r : NumberLine) (found : NumberLineFound (is_number_line key) (number_behind key) input at r) where
@@ -46,8 +46,8 @@ module _ (key input : List ℕ) (at : ℕ) (r : NumberLine) (found : NumberLineF
     line_read : Passed (is_number_line key) input at next × (number ≡ number_behind key (line_of (drop at input)))
     line_read = subst (λ (x : NumberLine). NumberLineFound (is_number_line key) (number_behind key) input at x) e found
 
-    pub next_within_here : next ≤ length input
-    next_within_here = line_read.0.within
+    pub next_within : next ≤ length input
+    next_within = line_read.0.within
 
     left_is : length (behind line_feed (drop at input)) ≡ length input - next
     left_is = sym (ap length line_read.0.rest) ∙ length-drop next input
@@ -60,7 +60,7 @@ module _ (key input : List ℕ) (at : ℕ) (r : NumberLine) (found : NumberLineF
     unfolding is_counted counted_text after_counted
     counted_there l =
         let size : next + number - next ≡ number = omega arith in
-        let w = next_within_here in
+        let w = next_within in
         record {
           good = rw (left_is, ← line_read.1, le-leb number (length input - next) l, line_read.0.good);
           ordered = omega arith;
@@ -87,7 +87,7 @@ module _ (input : List ℕ) (at : ℕ) where
   too_long l = rw (lt-ltb most_tape_input (length input) l)
 
   unframed : is_framed (drop at input) ≡ false → bad_frame input (drop at input) ≡ true
-  unframed e = rw e (or_true (ltb most_tape_input (length input)))
+  unframed e = rw e (or-true (ltb most_tape_input (length input)))
 
   module _ (r : Counted) (label : CountedFound label_key input at r) where
     pub no_label : r ≡ Counted.Missing → bad_frame input (drop at input) ≡ true
@@ -110,9 +110,9 @@ module _ (input : List ℕ) (at : ℕ) where
         second : CountedAt index_key input to start over
         second = subst (λ (x : Counted). CountedFound index_key input to x) f index
 
-        pub text_behind_here : over < length input → bad_frame input (drop at input) ≡ true
+        pub text_behind : over < length input → bad_frame input (drop at input) ≡ true
         unfolding is_framed
-        text_behind_here l = unframed (rw (first.good, ← first.rest, second.good, ← second.rest) (some_left over input l))
+        text_behind l = unframed (rw (first.good, ← first.rest, second.good, ← second.rest) (some_left over input l))
 
         pub texts_there : length input ≤ most_tape_input → length input ≤ over → TextsAt input at from to start
         unfolding is_framed
@@ -195,7 +195,7 @@ row_put : (text row row' : List ℕ) (next : ℕ) → length text ≤ length row
 row_put text row row' next fits p =
     let w = p.room (omega arith) in
     let e : next ≡ length text = w.after ∙ omega arith in
-    wrote-page w ∙ rw e
+    wrote_page w ∙ rw e
 
 module _ (text report out notes : List ℕ) where
   abbrev none : Told
@@ -208,12 +208,12 @@ module _ (text report out notes : List ℕ) where
 
   pub notes_short : length notes < length report → BothHanded text report out notes none out notes
   notes_short l =
-      let short : rows_short text report out notes ≡ true = rw (lt-ltb (length notes) (length report) l) (or_true (ltb (length out) (length text))) in
+      let short : rows_short text report out notes ≡ true = rw (lt-ltb (length notes) (length report) l) (or-true (ltb (length out) (length text))) in
       record { told = rw short; sheet = rw short; listed = rw short }
 
-  pub both_put_here : length text ≤ length out → length report ≤ length notes → (out' notes' : List ℕ) (a b : ℕ) → Put out 0 text (length text) out' a → Put notes 0 report (length report) notes' b
+  pub both_put : length text ≤ length out → length report ≤ length notes → (out' notes' : List ℕ) (a b : ℕ) → Put out 0 text (length text) out' a → Put notes 0 report (length report) notes' b
       → BothHanded text report out notes (record { bytes = length text; noted = length report }) out' notes'
-  both_put_here l m out' notes' a b p q =
+  both_put l m out' notes' a b p q =
       let fits : rows_short text report out notes ≡ false = rw (le-ltb (length out) (length text) l, le-ltb (length notes) (length report) m) in
       record { told = rw fits; sheet = row_put text out out' a l p ∙ rw fits; listed = row_put report notes notes' b m q ∙ rw fits }
 
@@ -250,16 +250,16 @@ module _ (input page page' : List ℕ) (report : Report) (d : Drafted input page
   refusal_is : f ≡ refuses verdict
   refusal_is = f-is ∙ ap (λ (x : Report). is_refusal x.refusal) d.report ∙ same_refusal (refuses verdict) refl
 
-  verdict_same : refuses verdict ≡ true → record { refusal = report.refusal; place = report.place } ≡ verdict
+  verdict_same_here : refuses verdict ≡ true → record { refusal = report.refusal; place = report.place } ≡ verdict
   unfolding ltfs_report
-  verdict_same e = rw (d.report, e)
+  verdict_same_here e = rw (d.report, e)
 
-  pub answer_refused_here : f ≡ true → (out notes : List ℕ) (w : Written) (out' : List ℕ) → RefusalWritten (record { refusal = report.refusal; place = report.place }) out w out'
+  pub answer_refused : f ≡ true → (out notes : List ℕ) (w : Written) (out' : List ℕ) → RefusalWritten (record { refusal = report.refusal; place = report.place }) out w out'
       → BothHanded (answer_text input) (report_text input) out notes (record { bytes = w.bytes; noted = 0 }) out' notes
   unfolding answer_text report_text
-  answer_refused_here e out notes w out' h =
+  answer_refused e out notes w out' h =
       let r : refuses verdict ≡ true = sym refusal_is ∙ e in
-      let says : RefusalWritten verdict out w out' = subst (λ (v : Verdict). RefusalWritten v out w out') (verdict_same r) h in
+      let says : RefusalWritten verdict out w out' = subst (λ (v : Verdict). RefusalWritten v out w out') (verdict_same_here r) h in
       rw r (told_one (refusal_text verdict) out notes (ltb (length out) (length (refusal_text verdict))) refl w out' says)
 
   module _ (e : f ≡ false) where
@@ -269,25 +269,25 @@ module _ (input page page' : List ℕ) (report : Report) (d : Drafted input page
     abbrev sheet : List ℕ
     sheet = ltfs_sheet (input_name input) (input_label input) (input_index input)
 
-    sheet_long : report.bytes ≡ length sheet
+    sheet_long_here : report.bytes ≡ length sheet
     unfolding ltfs_report
-    sheet_long = rw (d.report, passed)
+    sheet_long_here = rw (d.report, passed)
 
-    page_is : page' ≡ sheet ++ drop (length sheet) page
+    page_is_here : page' ≡ sheet ++ drop (length sheet) page
     unfolding written_row
-    page_is = d.left ∙ rw passed
+    page_is_here = d.left ∙ rw passed
 
     sheet_front : take report.bytes page' ≡ sheet
-    sheet_front = rw (sheet_long, page_is) (take_at sheet (drop (length sheet) page) (length sheet) refl)
+    sheet_front = rw (sheet_long_here, page_is_here) (take_at sheet (drop (length sheet) page) (length sheet) refl)
 
     pub sheet_fits : report.bytes ≤ longest_sheet
     unfolding tape_input_verdict
     sheet_fits =
         let all = all_accept (refuse_if (not (is_tape_line (line_of input))) BadName ∷ refuse_if (bad_frame input (behind line_feed input)) BadText ∷ tape_verdict (input_name input) (input_label input) (input_index input) ∷ []) passed in
-        rw sheet_long (sheet-within (input_name input) (input_label input) (input_index input) all.1.1.0)
+        rw sheet_long_here (sheet_within (input_name input) (input_label input) (input_index input) all.1.1.0)
 
     pub sheet_part : report.bytes ≡ length (take report.bytes page')
-    sheet_part = sheet_long ∙ sym (ap length sheet_front)
+    sheet_part = sheet_long_here ∙ sym (ap length sheet_front)
 
     pub answer_handed : (out notes list list' : List ℕ) (n : ℕ) → Wrote list 0 (left_out_text report.empty report.other) 54 list' n → (r : Told) (out' notes' : List ℕ)
         → BothHanded (take report.bytes page') (take n list') out notes r out' notes' → BothHanded (answer_text input) (report_text input) out notes r out' notes'

@@ -33,8 +33,8 @@ use Rattle.tape_files.specs.Values.{is_value, value_in, number_field, letter_fie
 use Rattle.answer_ltfs.specs.Private.Tallies.{TableRows, RowsHold, EndsFit, TallyHolds, texts_read, text_checks, file_checks, report_of, table_sheet, table_verdict, table_report, table_row}
 use Rattle.answer_ltfs.proofs.Order.{some_kept, length_kept, tape_order_ascends, held_ranges}
 use Rattle.answer_ltfs.proofs.Tallies.{held_length}
-use Rattle.tape_files.proofs.Said.{field-good, field-value, number_form, letter_form}
-use Rattle.answer_ltfs.proofs.Neighbours.{is_void, is_beyond, same_overlap, none_void, ends-fit, passes}
+use Rattle.tape_files.proofs.Said.{field_good, field_value, number_form, letter_form}
+use Rattle.answer_ltfs.proofs.Neighbours.{is_void, is_beyond, same_overlap, none_void, ends_fit_lem, passes}
 
 -- A sheet has bytes.
 text_some : (name : List ℕ) (run : Run) → length (sheet_text name run) ≡ 0 → ⊥
@@ -76,8 +76,8 @@ module _ (size partition : ℕ) (files : List (List Forest)) where
   pub overlap_is : some_overlap tableFor ≡ neighbour_overlap tableFor
   overlap_is = same_overlap tableFor (tape_order_ascends (ranges_of size partition files)) full_ranges
 
-  pub table_passes_here : are_far (ranges_of size partition files) ≡ false → some_overlap tableFor ≡ false → judge_of (run_of_table tableFor) ≡ accepted
-  table_passes_here f o =
+  pub table_passes : are_far (ranges_of size partition files) ≡ false → some_overlap tableFor ≡ false → judge_of (run_of_table tableFor) ≡ accepted
+  table_passes f o =
       let few = few_ranges f in
       passes tableFor few.0 full_ranges few.1 (sym overlap_is ∙ o)
 
@@ -123,7 +123,7 @@ module _ (name : List ℕ) (size partition : ℕ) (files : List (List Forest)) (
 
         pub laid_ends : EndsFit starts lengths tally.kept
         laid_ends =
-            ends-fit (tableFor size partition files) tally.kept starts lengths held
+            ends_fit_lem (tableFor size partition files) tally.kept starts lengths held
             (held_length (tableFor size partition files) tally.kept starts lengths (omega (arith, fits.first, h.within)) held)
             (few_ranges size partition files (sym far_is ∙ f)).1
 
@@ -158,7 +158,7 @@ module _ (name : List ℕ) (size partition : ℕ) (files : List (List Forest)) (
             let run = laid_run head l in
             let far : are_far (ranges_of size partition files) ≡ false = sym far_is ∙ f in
             let apart = overlap_seen false e in
-            let wv = write_checks name (run_of_table (tableFor size partition files)) row n (table_passes_here size partition files far apart) (table_few size partition files far) in
+            let wv = write_checks name (run_of_table (tableFor size partition files)) row n (table_passes size partition files far apart) (table_few size partition files far) in
             let tv = row_table (sym h.good ∙ g) (sym h.several ∙ s) far apart in
             let we' : w ≡ written_answer (refuse_if (ltb (length row) (length (sheet_text name (run_of_table (tableFor size partition files))))) ShortRow) (sheet_text name (run_of_table (tableFor size partition files))) =
             written.answer ∙ ap (λ (r : Run). written_answer (write_verdict name r row) (sheet_text name r)) run ∙ ap (λ (v : Verdict). written_answer v (sheet_text name (run_of_table (tableFor size partition files)))) wv in (
@@ -211,19 +211,19 @@ texts_judged label index read a b s p i a-is b-is s-is p-is i-is v v-is =
 -- A label that was read is good where its fields are values, and then says the same.
 pub label_size : (label : Forest) → is_value (label_of label).size ≡ are_good is_number (block_sizes label)
 unfolding label_of
-label_size label = field-good number_field is_number value_of number_form (block_sizes label)
+label_size label = field_good number_field is_number value_of number_form (block_sizes label)
 
 pub label_partition : (label : Forest) → is_value (label_of label).partition ≡ are_good is_partition (data_partitions label)
 unfolding label_of
-label_partition label = field-good letter_field is_partition letter_of letter_form (data_partitions label)
+label_partition label = field_good letter_field is_partition letter_of letter_form (data_partitions label)
 
 size_value : (label : Forest) → is_value (label_of label).size ≡ true → value_in (label_of label).size ≡ block_size_of label
 unfolding label_of block_size_of
-size_value label e = field-value number_field is_number value_of number_form (block_sizes label) (sym (label_size label) ∙ e)
+size_value label e = field_value number_field is_number value_of number_form (block_sizes label) (sym (label_size label) ∙ e)
 
 partition_value : (label : Forest) → is_value (label_of label).partition ≡ true → value_in (label_of label).partition ≡ data_partition_of label
 unfolding label_of data_partition_of
-partition_value label e = field-value letter_field is_partition letter_of letter_form (data_partitions label) (sym (label_partition label) ∙ e)
+partition_value label e = field_value letter_field is_partition letter_of letter_form (data_partitions label) (sym (label_partition label) ∙ e)
 
 -- The checks of a name, a label and an index.
 module _ (name label index row : List ℕ) where

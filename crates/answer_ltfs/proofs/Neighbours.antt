@@ -143,8 +143,8 @@ module _ (table : List Range) where
   bytes_in i = get_or-map (λ range. range.bytes) table i no_range
 
   -- No end in two rows that hold the table is above the limit where none of the table is.
-  pub ends_fit_here : (kept : ℕ) (starts lengths : List ℕ) → RowsHold table kept starts lengths → kept ≡ length table → some is_beyond table ≡ false → EndsFit starts lengths kept
-  ends_fit_here kept starts lengths h k e i l =
+  pub ends_fit_lem : (kept : ℕ) (starts lengths : List ℕ) → RowsHold table kept starts lengths → kept ≡ length table → some is_beyond table ≡ false → EndsFit starts lengths kept
+  ends_fit_lem kept starts lengths h k e i l =
       let s : get_or starts i 0 ≡ (get_or table i no_range).start = sym (get_or-take kept starts i 0 l) ∙ ap (λ (row : List ℕ). get_or row i 0) h.start ∙ start_in_here i in
       let b : get_or lengths i 0 ≡ (get_or table i no_range).bytes = sym (get_or-take kept lengths i 0 l) ∙ ap (λ (row : List ℕ). get_or row i 0) h.bytes ∙ bytes_in i in
       let n = ltb-false last_place (end_of_range (get_or table i no_range)) (none_at is_beyond table e i (omega arith)) in

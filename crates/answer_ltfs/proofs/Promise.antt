@@ -25,7 +25,7 @@ use Rattle.tape_files.specs.Index.{some, block_size_of, data_partition_of, parti
 use Rattle.answer_ltfs.specs.TapeTable.{first_extent, in_several, is_empty_file, lies_elsewhere, is_accepted, how_many, only, range_of, ranges_of, are_far, some_overlap, run_of_table, ranges_in, tape_table, are_good_texts, ltfs_sheet, ltfs_verdict, tape_verdict, ltfs_report}
 use Rattle.answer_ltfs.specs.Promises.{NoFileIsLost, AnswerCountsAll, SheetReadsBack, RowSuffices}
 use Rattle.answer_ltfs.proofs.Order.{one_if, counted_cons, counted_none, length_kept}
-use Rattle.answer_ltfs.proofs.Laid.{table_passes, table-few}
+use Rattle.answer_ltfs.proofs.Laid.{table_passes, table_few}
 
 -- Every file is accepted, empty or elsewhere, and only one of these.
 one_kind : (e p : Bool) → one_if (not e && p) + one_if e + one_if (not e && not p) ≡ 1
@@ -86,7 +86,7 @@ sheet_reads_back name label index row e =
     let far = accepts_if (are_far (ranges_in label index)) FarFile refl all.1.1.1.0 in
     let apart = accepts_if (some_overlap (tape_table label index)) Overlap refl all.1.1.1.1.0 in
     let judged = table_passes size partition files far apart in
-    let back = round_trip name (run_of_table (tape_table label index)) judged (table-few size partition files far) named in
+    let back = round_trip name (run_of_table (tape_table label index)) judged (table_few size partition files far) named in
     record {
       reads = back.accepts;
       name = back.same_name;

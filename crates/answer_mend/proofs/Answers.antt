@@ -20,7 +20,7 @@ use Rattle.sheet_reader.specs.Sheet.{longest_sheet}
 use Rattle.sheet_reader.specs.Reading.{short_pair_rows, read_row}
 use Rattle.sheet_reader.proofs.Rows.{length_each}
 use Rattle.text_pages.specs.Printing.{Wrote, Put}
-use Rattle.text_pages.proofs.Pages.{wrote-page}
+use Rattle.text_pages.proofs.Pages.{wrote_page}
 use Rattle.sheet_loose.specs.declared.Parts.{Parts}
 use Rattle.sheet_loose.specs.Loose.{loose_want_text, loose_wants, first_bad_loose, wanted_files, wanted_counts}
 use Rattle.sheet_loose.specs.Reading.{loose_verdict, want_rows_verdict, refused_parts, sheet_parts, loose_parts, LooseRead}
@@ -35,7 +35,7 @@ row_put : (text row row' : List ℕ) (next : ℕ) → length text ≤ length row
 row_put text row row' next fits p =
     let w = p.room (omega arith) in
     let e : next ≡ length text = w.after ∙ omega arith in
-    wrote-page w ∙ rw e
+    wrote_page w ∙ rw e
 
 -- v is the verdict, f whether it refuses.
 module _ (v : Verdict) (text changes out notes : List ℕ) (f : Bool) (f-is : f ≡ is_refusal v.refusal) where
@@ -64,9 +64,9 @@ module _ (text changes out notes : List ℕ) (v : Verdict) (v-is : v ≡ first_o
         or_false_both (ltb (length out) (length text)) (ltb (length notes) (length changes))
         (accepts_if (ltb (length out) (length text) || ltb (length notes) (length changes)) ShortRow refl all.1.0)
 
-    pub both_put_here : (out' notes' : List ℕ) (a b : ℕ) → Put out 0 text (length text) out' a → Put notes 0 changes (length changes) notes' b
+    pub both_put : (out' notes' : List ℕ) (a b : ℕ) → Put out 0 text (length text) out' a → Put notes 0 changes (length changes) notes' b
         → MendHanded (first_of (texts_verdicts text changes out notes)) text changes out notes (record { refusal = Accepted; place = 0; bytes = length text; noted = length changes }) out' notes'
-    both_put_here out' notes' a b p q =
+    both_put out' notes' a b p q =
         let fits = both_fit_here in
         subst (λ w. MendHanded w text changes out notes (record { refusal = Accepted; place = 0; bytes = length text; noted = length changes }) out' notes') v-is
         (handed_both v text changes out notes f f-is e out' notes'

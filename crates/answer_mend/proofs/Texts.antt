@@ -16,7 +16,7 @@ use Rattle.text_lines.specs.Lines.{line_after, after_lines, is_triple_line, firs
 use Rattle.sheet_reader.specs.Lines.{turn_key, rule_key, least_text, files_key, file_key, wants_key, want_key}
 use Rattle.sheet_reader.specs.Sheet.{longest_sheet, most_sheet_files, says_sweep, sheet_files, sheet_turn, file_text}
 use Rattle.text_pages.specs.Printing.{line, number_line, pair_line, pair_lines, Wrote, Put}
-use Rattle.text_pages.proofs.Pages.{wrote-both, wrote_on, wrote-within, wrote-long, put_three, LinesPut, line_put, pairs-left}
+use Rattle.text_pages.proofs.Pages.{wrote_both, wrote_on, wrote_within, wrote_long, put_three, LinesPut, line_put, pairs_left}
 use Rattle.sheet_loose.specs.declared.Parts.{Parts}
 use Rattle.sheet_loose.specs.Loose.{loose_files, loose_wants_text, wants_said, price_left_out, wanted_files, wanted_counts}
 use Rattle.sheet_loose.specs.Reading.{begins_at, sheet_parts}
@@ -39,8 +39,8 @@ module _ (page : List ℕ) (at n : ℕ) (page' : List ℕ) (next : ℕ) where
   pub change_said : (word : List ℕ) (changed : Bool) → changed ≡ true → Wrote page at (change_line n word) 36 page' next → Wrote page at (change_if changed n word) 36 page' next
   change_said word changed e w = rw e w
 
-  pub fate_said_here : (word : List ℕ) (fate other : Fate) → fate ≡ other → change_line n word ≡ fate_line n other → Wrote page at (change_line n word) 36 page' next → Wrote page at (fate_line n fate) 36 page' next
-  fate_said_here word fate other e f w = rw e (rw f at w)
+  pub fate_said : (word : List ℕ) (fate other : Fate) → fate ≡ other → change_line n word ≡ fate_line n other → Wrote page at (change_line n word) 36 page' next → Wrote page at (fate_line n fate) 36 page' next
+  fate_said word fate other e f w = rw e (rw f at w)
 
 pub change_unsaid : (page : List ℕ) (at n : ℕ) (word : List ℕ) (changed : Bool) → changed ≡ false → Wrote page at (change_if changed n word) 36 page at
 change_unsaid page at n word changed e = rw e (nothing_put page at 36)
@@ -68,7 +68,7 @@ module _ (page₀ : List ℕ) (at above : ℕ) (wanted counts : List ℕ) (room 
   unfolding fate_lines
   fate_more l page' last same fate fate-is w =
       let w' : Wrote page next (fate_line (above + (i + 1)) (fate_of wanted counts i)) 36 page' last = rw fate-is at w in
-      let both : Wrote page₀ at (fate_lines above wanted counts (suc i)) (i * 36 + 36) page' last = wrote-both p.wrote w' in
+      let both : Wrote page₀ at (fate_lines above wanted counts (suc i)) (i * 36 + 36) page' last = wrote_both p.wrote w' in
       let many : i * 36 + 36 ≡ (i + 1) * 36 = omega arith in
       record { few = omega arith; long = same ∙ p.long; wrote = rw (← many, add-one) both }
 
@@ -94,13 +94,13 @@ module _ (page₀ : List ℕ) (at : ℕ) (row wanted counts : List ℕ) (room : 
       → LinesPut page₀ at 47 (pair_lines want_key row (reads_each wanted counts row)) (length row) (pair_lines want_key (drop (i + 1) row) (drop (i + 1) (reads_each wanted counts row))) page' last (i + 1)
   want_put l reads reads-are page' last q =
       let here : get_or (reads_each wanted counts row) i 0 ≡ reads = each_at wanted counts row i l ∙ sym reads-are in
-      let left = pairs-left want_key row (reads_each wanted counts row) (each_long wanted counts row) i l in
+      let left = pairs_left want_key row (reads_each wanted counts row) (each_long wanted counts row) i l in
       line_put page₀ at 47 (pair_lines want_key row (reads_each wanted counts row)) (length row) room (pair_lines want_key (drop i row) (drop i (reads_each wanted counts row))) page next i p l
       (pair_line want_key (get_or row i 0) reads) (pair_lines want_key (drop (i + 1) row) (drop (i + 1) (reads_each wanted counts row))) (rw here at left) (length want_key + 42) (omega arith) page' last q
 
 -- Where the parts of a sheet start.
 module _ (sheet : List ℕ) where
-  table_ends : Ends (file_text sheet) sheet
+  table_ends_here : Ends (file_text sheet) sheet
   unfolding file_text
   table_ends = after_ends 5 sheet
 
@@ -118,8 +118,8 @@ module _ (sheet : List ℕ) where
   pub table_cut : take (begins_at sheet (loose_wants_text sheet) - begins_at sheet (file_text sheet)) (drop (begins_at sheet (file_text sheet)) sheet) ≡ first_lines (loose_files sheet) (file_text sheet)
   unfolding loose_wants_text
   table_cut =
-      let s : begins_at sheet (loose_wants_text sheet) - begins_at sheet (file_text sheet) ≡ length (file_text sheet) - length (loose_wants_text sheet) = omega (arith, tail_ends.short, table_ends.short) in
-      rw (s, table_ends.rest)
+      let s : begins_at sheet (loose_wants_text sheet) - begins_at sheet (file_text sheet) ≡ length (file_text sheet) - length (loose_wants_text sheet) = omega (arith, tail_ends.short, table_ends_here.short) in
+      rw (s, table_ends_here.rest)
 
   pub few_files : loose_files sheet ≤ most_sheet_files
   unfolding loose_files first_bad_of
@@ -197,14 +197,14 @@ module _ (page sheet : List ℕ) (parts : Parts) (wanted counts row : List ℕ) 
     wants_room =
         let c = copied in
         let w = upper_put in
-        let same = wrote-long w (omega arith) in
+        let same = wrote_long w (omega arith) in
         (few_reads_here, omega (arith, w.within, ok.few))
 
     pub sheet_put : {page₇ : List ℕ} {at₇ : ℕ} → Wrote page₆ at₆ (pair_lines want_key row (reads_each wanted counts row)) (length row * 47) page₇ at₇ → Wrote page 0 (mended_text sheet) 19483 page₇ at₇
     unfolding mended_text sheet_reads
     sheet_put w₇ =
         let c = copied in
-        let all = wrote-within (wrote-both upper_put w₇) 19483 (omega (arith, ok.few)) in
+        let all = wrote_within (wrote_both upper_put w₇) 19483 (omega (arith, ok.few)) in
         let turn_is : parts.turn ≡ sheet_turn sheet = ap (λ p. p.turn) ok.read.parts_are in
         let files_are : parts.files ≡ loose_files sheet = ap (λ p. p.files) ok.read.parts_are in
         let cut : tableText ≡ first_lines (loose_files sheet) (file_text sheet) = rw (table_is, tail_is) (table_cut sheet) in
@@ -237,7 +237,7 @@ module _ (page sheet : List ℕ) (parts : Parts) (wanted counts row : List ℕ) 
           pub changes_put : {page₅ : List ℕ} {at₅ : ℕ} → Wrote page₄ at₄ (fate_lines (parts.files + 6) wanted counts (length wanted)) (length wanted * 36) page₅ at₅ → Wrote page 0 (changes_text sheet) 98424 page₅ at₅
           unfolding changes_text
           changes_put w₅ =
-              let all = wrote-within (wrote-both (wrote-both (wrote-both (wrote-both w₁ w₂) w₃) w₄) w₅) 98424 (omega (arith, ok.read.lines)) in
+              let all = wrote_within (wrote_both (wrote_both (wrote_both (wrote_both w₁ w₂) w₃) w₄) w₅) 98424 (omega (arith, ok.read.lines)) in
               let empty_is : parts.empty ≡ price_left_out sheet = ap (λ p. p.empty) ok.read.parts_are in
               let sweep-is : parts.sweep ≡ says_sweep sheet = ap (λ p. p.sweep) ok.read.parts_are in
               let listed-is : parts.listed ≡ sheet_files sheet = ap (λ p. p.listed) ok.read.parts_are in

@@ -13,7 +13,7 @@ use Rattle.refusals.specs.declared.Verdict.{Verdict}
 use Rattle.refusals.specs.Refusals.{number_of, is_refusal}
 use Rattle.text_bytes.specs.Text.{bytes, comma, decimal}
 use Rattle.text_pages.specs.Printing.{number_line, pair_line, Wrote, Put}
-use Rattle.text_pages.proofs.Pages.{wrote-page, wrote-long, wrote-within, wrote-both, wrote_on}
+use Rattle.text_pages.proofs.Pages.{wrote_page, wrote_long, wrote_within, wrote_both, wrote_on}
 use Rattle.answer_plan.specs.Recall.{bytes_put, row_put}
 use Rattle.answer_month.specs.declared.Month.{Month}
 use Rattle.answer_month.specs.declared.Mean.{Mean}
@@ -62,13 +62,13 @@ pub put_top_lem : (accepted kinds : ℕ) (runs : List ℕ) → kinds ≡ kinds_i
 unfolding month_top
 put_top_lem accepted kinds runs is page page₁ page₂ page₃ at₁ at₂ at₃ room p q s =
     let two = wrote_on (p.room (omega arith)) (omega arith) (subst (λ k. Put page₁ at₁ (number_line (bytes "refusals=") k) 30 page₂ at₂) is q) in
-    wrote-both two s
+    wrote_both two s
 
 pub top_room : (accepted kinds : ℕ) (runs page page₁ page₂ : List ℕ) (at₁ at₂ : ℕ) → 60 + length runs * 50 ≤ length page
     → Put page 0 (number_line (bytes "accepted=") accepted) 30 page₁ at₁ → Put page₁ at₁ (number_line (bytes "refusals=") kinds) 30 page₂ at₂ → at₂ + length runs * 50 ≤ length page₂
 top_room accepted kinds runs page page₁ page₂ at₁ at₂ room p q =
     let two = wrote_on (p.room (omega arith)) (omega arith) q in
-    omega (arith, two.within, wrote-long two (omega arith))
+    omega (arith, two.within, wrote_long two (omega arith))
 
 pub put_sums_lem : (reads sum : ℕ) (mean : Mean) → mean ≡ mean_of sum reads → (page page₁ page₂ page₃ : List ℕ) (at at₁ at₂ at₃ : ℕ) → at + 99 ≤ length page
     → Put page at (number_line (bytes "reads=") reads) 27 page₁ at₁ → Put page₁ at₁ (number_line (bytes "sum=") sum) 25 page₂ at₂
@@ -84,7 +84,7 @@ pub put_longest_lem : (time : ℕ) (tape : List ℕ) (file : ℕ) → length tap
 unfolding longest_text
 put_longest_lem time tape file short page page₁ page₂ page₃ page₄ page₅ at at₁ at₂ at₃ at₄ at₅ room p q s t u =
     let three = wrote_on (wrote_on (p.room (omega arith)) (omega arith) q) (omega arith) s in
-    wrote-within (wrote_on (wrote_on three (omega arith) t) (omega arith) u) 67 (omega arith)
+    wrote_within (wrote_on (wrote_on three (omega arith) t) (omega arith) u) 67 (omega arith)
 
 not_so : (f b : Bool) → not f ≡ b → f ≡ not b
 not_so true b e = ap not e
@@ -98,7 +98,7 @@ module _ (saved : ℕ) (v : Verdict) (f : Bool) (f-is : f ≡ is_refusal v.refus
   unfolding month_end
   put_saved n =
       let e : f ≡ false = not_so f true n in
-      let alone = wrote-within (p.room (omega arith)) 83 (omega arith) in
+      let alone = wrote_within (p.room (omega arith)) 83 (omega arith) in
       rw (sym f-is ∙ e) (subst (λ t. Wrote page at t 83 page₁ at₁) (sym (append-nil (number_line (bytes "saved=") saved))) alone)
 
   pub put_refused : not f ≡ false → (number : ℕ) → number ≡ number_of v.refusal → (page₂ page₃ : List ℕ) (at₂ at₃ : ℕ) → Put page₁ at₁ (number_line (bytes "refused=") number) 29 page₂ at₂
@@ -129,31 +129,31 @@ module _ (text row : List ℕ) where
   row_some e = rw e refl
 
 row_with_lem : {row : List ℕ} {text : List ℕ} {most : ℕ} {row' : List ℕ} {n : ℕ} → Wrote row 0 text most row' n → row' ≡ text ++ drop (length text) row
-row_with_lem {row} {text} {n = n} w = let e : n ≡ length text = omega (arith, w.after) in wrote-page w ∙ ap (λ k. text ++ drop k row) e
+row_with_lem {row} {text} {n = n} w = let e : n ≡ length text = omega (arith, w.after) in wrote_page w ∙ ap (λ k. text ++ drop k row) e
 
 -- The whole page, on one that has room for the longest.
 module _ (m : Month) (v : Verdict) (thirtytwo : length m.refused ≡ 32) (page₀ : List ℕ) (long : length page₀ ≡ 2048)
     (page₁ : List ℕ) (at₁ : ℕ) (top : Wrote page₀ 0 (month_top m.accepted m.refused) (60 + length m.refused * 50) page₁ at₁) where
   pub room_two : at₁ + 99 ≤ length page₁
-  room_two = omega (arith, top.within, wrote-long top (omega arith))
+  room_two = omega (arith, top.within, wrote_long top (omega arith))
 
   module _ (page₂ : List ℕ) (at₂ : ℕ) (sums : Wrote page₁ at₁ (sums_text m.reads m.sum) 99 page₂ at₂) where
     pub room_three : at₂ + 67 ≤ length page₂
-    room_three = omega (arith, top.within, sums.within, wrote-long top (omega arith), wrote-long sums room_two)
+    room_three = omega (arith, top.within, sums.within, wrote_long top (omega arith), wrote_long sums room_two)
 
     module _ (name : List ℕ) (is : name ≡ month_tape m) (page₃ : List ℕ) (at₃ : ℕ) (longest : Wrote page₂ at₂ (longest_text m.time name m.file) 67 page₃ at₃) where
       pub room_four : at₃ + 83 ≤ length page₃
-      room_four = omega (arith, top.within, sums.within, longest.within, wrote-long top (omega arith), wrote-long sums room_two, wrote-long longest room_three)
+      room_four = omega (arith, top.within, sums.within, longest.within, wrote_long top (omega arith), wrote_long sums room_two, wrote_long longest room_three)
 
       module _ (page₄ : List ℕ) (at₄ : ℕ) (end : Wrote page₃ at₃ (month_end m.saved v) 83 page₄ at₄) where
         whole : Wrote page₀ 0 (page_text m v) (60 + length m.refused * 50 + 99 + 67 + 83) page₄ at₄
         unfolding page_text
         whole =
             let named = subst (λ t. Wrote page₂ at₂ (longest_text m.time t m.file) 67 page₃ at₃) is longest in
-            wrote-both (wrote-both (wrote-both top sums) named) end
+            wrote_both (wrote_both (wrote_both top sums) named) end
 
         pub page_kept : length page₄ ≡ 2048
-        page_kept = wrote-long whole (omega arith) ∙ long
+        page_kept = wrote_long whole (omega arith) ∙ long
 
         pub page_within : at₄ ≤ 2048
         page_within = omega (arith, whole.within)
@@ -162,8 +162,8 @@ module _ (m : Month) (v : Verdict) (thirtytwo : length m.refused ≡ 32) (page�
         page_is = whole.bytes
 
         -- Handed out.
-        pub page_put_here : (row : List ℕ) (n : ℕ) (row' : List ℕ) → Put row 0 (take at₄ page₄) (length (take at₄ page₄)) row' n → PagePut m v row n row'
-        page_put_here row n row' p = go (ltb (length row) (length (page_text m v))) refl
+        pub page_put : (row : List ℕ) (n : ℕ) (row' : List ℕ) → Put row 0 (take at₄ page₄) (length (take at₄ page₄)) row' n → PagePut m v row n row'
+        page_put row n row' p = go (ltb (length row) (length (page_text m v))) refl
           where
             put : Put row 0 (page_text m v) (length (page_text m v)) row' n
             put = subst (λ t. Put row 0 t (length t) row' n) page_is p

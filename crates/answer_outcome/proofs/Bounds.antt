@@ -14,14 +14,14 @@ use Rattle.runs.specs.Rows.{stop_at}
 use Rattle.runs.specs.Judging.{judge_of}
 use Rattle.runs.proofs.Judged.{accepted_run}
 use Rattle.runs.proofs.Joined.{reads_of}
-use Rattle.runs.proofs.Stops.{stops-reads, run_sound}
+use Rattle.runs.proofs.Stops.{stops_reads, run_sound}
 use Rattle.walk.specs.declared.Leg.{Leg}
 use Rattle.walk.specs.Walk.{head_at, reads, time_of, sum_of}
 use Rattle.walk.specs.Detours.{last_sweep, legs_of}
 use Rattle.walk.specs.Price.{priced_answer}
 use Rattle.sheet_reader.specs.Sheet.{sheet_run, sheet_name}
 use Rattle.sheet_reader.specs.Reading.{sheet_verdict, rule_verdict}
-use Rattle.sheet_reader.proofs.Good.{good-name}
+use Rattle.sheet_reader.proofs.Good.{good_name}
 use Rattle.answer_plan.specs.Recall.{run_checks, verdict_by, recall_verdict}
 use Rattle.answer_outcome.specs.declared.Outcome.{Outcome}
 use Rattle.answer_outcome.specs.Outcomes.{name_in, name_letters, refused_outcome, planned_outcome, PlannedAs, OutcomeOf}
@@ -65,7 +65,7 @@ module _ (run : Run) (ok : refuses (judge_of run) ≡ false) where
       let sound = run_sound run good in
       let far : (i : ℕ) → i < length (stops_of run) → run.head + run.turn + (stop_at (stops_of run) i).end ≤ longest_sweep =
       λ i l. omega (arith, sound.reached i l, good.start.near, good.start.cheap) in
-      omega (arith, sweep_sum (stops_of run) far, stops-reads run good, few_reads_here)
+      omega (arith, sweep_sum (stops_of run) far, stops_reads run good, few_reads_here)
 
 -- What a month can count on of a sheet's outcome.
 pub record Small (o : Outcome) : Type 0 where
@@ -91,7 +91,7 @@ module _ (sheet : List ℕ) (passes : is_refusal (recall_verdict sheet).refusal 
   planned_small o p =
       let empty = empty_sum_small (sheet_run sheet) all_pass.1 in
       let less = least_saves (sheet_run sheet) p.list p.least in
-      let short = name_fits (sheet_name sheet) (good-name sheet all_pass.0) in
+      let short = name_fits (sheet_name sheet) (good_name sheet all_pass.0) in
       subst Small (sym p.says)
       (record {
         reads = few_reads_here (sheet_run sheet) all_pass.1;

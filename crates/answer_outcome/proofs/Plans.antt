@@ -17,7 +17,7 @@ use Rattle.runs.specs.Rows.{counted_reads}
 use Rattle.runs.specs.Judging.{judge_of}
 use Rattle.runs.specs.Lists.{Detour, list_of, WellFormed, first_bad_entry, list_verdict}
 use Rattle.runs.proofs.Judged.{accepted_run}
-use Rattle.runs.proofs.Stops.{wants-length}
+use Rattle.runs.proofs.Stops.{wants_length}
 use Rattle.walk.specs.declared.Answer.{Answer}
 use Rattle.walk.specs.Walk.{times_of}
 use Rattle.walk.specs.Price.{priced_answer, priced_times, price_verdict, price_answer}
@@ -26,7 +26,7 @@ use Rattle.planner.specs.Plan.{Plans, Planned, plan_verdict}
 use Rattle.planner.specs.Rows.{Rows}
 use Rattle.least.specs.Least.{LeastForRun}
 use Rattle.answer_plan.specs.Recall.{run_checks}
-use Rattle.answer_plan.proofs.Planned.{Lent, run-refusal, planned, accepts}
+use Rattle.answer_plan.proofs.Planned.{Lent, run_refusal, planned, accepts}
 use Rattle.text_bytes.specs.Text.{between, all_of, is_name_byte, is_name}
 use Rattle.text_bytes.proofs.Bytes.{and_true_both}
 use Rattle.answer_outcome.specs.declared.Timed.{Timed}
@@ -38,7 +38,7 @@ use Rattle.answer_outcome.specs.Private.{TimedList, TimedPlan, RunOutcome}
 -- An accepted run has a time for each want.
 pub times_long : (run : Run) (list : List Detour) → refuses (judge_of run) ≡ false → length (priced_times run list) ≡ length run.numbers
 unfolding priced_times times_of
-times_long run list ok = rw length-map (wants-length run.starts run.lengths run.aggregates run.numbers run.counts (sym (accepted_run run ok).wants.equal))
+times_long run list ok = rw length-map (wants_length run.starts run.lengths run.aggregates run.numbers run.counts (sym (accepted_run run ok).wants.equal))
 
 pub run_passes : (run : Run) → refuses (first_of (run_checks run)) ≡ false → refuses (judge_of run) ≡ false
 run_passes run e = (all_accept (run_checks run) e).0
@@ -85,10 +85,10 @@ module _ (run : Run) (rows : Rows) (lent : Lent rows) (a : Answer) (after : Rows
           ap (λ x. length x.times) p.rows
           ∙ row_kept (priced_times run p.list) rows.times (length run.numbers) (times_long run p.list ok) (accepted_run run ok).wants.few lent.times
 
-  pub timed_plan_here : TimedPlan run held
-  timed_plan_here =
+  pub timed_plan_lem : TimedPlan run held
+  timed_plan_lem =
       record {
-        refused = λ e. sym (ap (λ v. v.refusal) (run-refusal run rows lent a after plans (is_refusal a.refusal) refl e (record { refusal = a.refusal; place = a.place }) refl).0);
+        refused = λ e. sym (ap (λ v. v.refusal) (run_refusal run rows lent a after plans (is_refusal a.refusal) refl e (record { refusal = a.refusal; place = a.place }) refl).0);
         planned = timed_list;
         long = row_long_here;
       }
@@ -123,8 +123,8 @@ planned_fields name run list reads sum empty most tape r s b m n = rw (r, s, b, 
 
 -- A plan's outcome.
 module _ (name : List ℕ) (run : Run) (t : Timed) (p : TimedPlan run t) (f : Bool) (f-is : f ≡ is_refusal t.plan.refusal) where
-  pub run_refused_here : f ≡ true → (o : Outcome) → o ≡ refused_outcome t.plan.refusal → RunOutcome name run o
-  run_refused_here e o is =
+  pub run_refused : f ≡ true → (o : Outcome) → o ≡ refused_outcome t.plan.refusal → RunOutcome name run o
+  run_refused e o is =
       let same = p.refused (sym f-is ∙ e) in
       record {
         refused = λ q. is ∙ ap refused_outcome (sym same);

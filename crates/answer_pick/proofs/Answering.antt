@@ -25,14 +25,14 @@ use Rattle.sheet_picks.specs.Entries.{most_entries, EntriesOf}
 use Rattle.sheet_picks.specs.Sheets.{picked_sheet}
 use Rattle.sheet_picks.specs.Names.{names_text}
 use Rattle.sheet_picks.specs.Writing.{picks_verdict, text_rows_verdict, PicksHanded, HandedFor, PicksWritten}
-use Rattle.sheet_picks.proofs.Stands.{lines-few}
+use Rattle.sheet_picks.proofs.Stands.{lines_few}
 use Rattle.answer_pick.specs.declared.Refused.{Refused}
 use Rattle.answer_pick.specs.declared.Picked.{Picked}
 use Rattle.answer_pick.specs.Picks.{are_readable, tape_of, asked_span, refused_if, first_refused, list_refused, input_checks, line_checks, pick_refused}
 use Rattle.answer_pick.specs.Answer.{asked_starts, asked_ends, entries_refused, rows_refused, answer_of, row_after, PickHanded, PickAnswered}
 use Rattle.answer_pick.specs.Private.{row_checks, other_if, refused_answer, picked_of, LinesPicked, IndexRead}
 use Rattle.answer_pick.proofs.Judging.{first_some_lem, first_next, list_accepts}
-use Rattle.answer_pick.proofs.Asked.{checks-same, checks-known, starts_same, ends_same, states-are, starts-are, ends-are}
+use Rattle.answer_pick.proofs.Asked.{checks_same, checks_known, starts_same, ends_same, states_are, starts_are, ends_are}
 
 -- The lines judged: refused, or written.
 module _ (name list states starts ends head turn out names : List ℕ) (count : ℕ) (counted : count ≡ line_count list) (lines : Refused) (is : lines ≡ row_checks (take count states) (take count ends)) where
@@ -144,22 +144,22 @@ module _ (unit : ℕ) (name label index list head turn out names : List ℕ) whe
               last : (v : Refused) → (first_refused (v ∷ [])).number ≡ 0 → v.number ≡ 0
               last v e = elim (dec_lt 0 v.number) [ yes h ↦ rw (ne_eqb v.number 0 (λ s. omega arith)) at e | no h ↦ omega arith ]
 
-      list_good : refuses (paths_verdict list) ≡ false
-      list_good = list_accepts list parts.2
+      list_good_here : refuses (paths_verdict list) ≡ false
+      list_good_here = list_accepts list parts.2
 
       found : FilesFound (tape_of unit label) index list states₀ starts₀ ends₀ true states starts ends
       found = read.found parts.0
 
       pub lines_fit : line_count list ≤ 1024
-      lines_fit = lines-few list list_good
+      lines_fit = lines_few list list_good_here
 
       n : ℕ
       n = line_count list
 
       checks_are : row_checks (take (line_count list) states) (take (line_count list) ends) ≡ line_checks (tape_of unit label) index list
       checks_are =
-          rw (states-are (tape_of unit label) index list states₀ starts₀ ends₀ x y w list_good states starts ends found, ends-are (tape_of unit label) index list states₀ starts₀ ends₀ x y w list_good states starts ends found)
-          (checks-same (tape_of unit label) index list)
+          rw (states_are (tape_of unit label) index list states₀ starts₀ ends₀ x y w list_good_here states starts ends found, ends_are (tape_of unit label) index list states₀ starts₀ ends₀ x y w list_good_here states starts ends found)
+          (checks_same (tape_of unit label) index list)
 
       pick_is : first_refused (line_checks (tape_of unit label) index list ∷ []) ≡ pick_refused unit name label index list
       pick_is = sym (first_next input (line_checks (tape_of unit label) index list ∷ []) z) ∙ pick_refused_is
@@ -178,13 +178,13 @@ module _ (unit : ℕ) (name label index list head turn out names : List ℕ) whe
 
           starts_asked : take (line_count list) starts ≡ asked_starts unit label index list
           starts_asked =
-              starts-are (tape_of unit label) index list states₀ starts₀ ends₀ x y w list_good states starts ends found
-              ∙ starts_same (tape_of unit label) index list (checks-known (tape_of unit label) index list ok)
+              starts_are (tape_of unit label) index list states₀ starts₀ ends₀ x y w list_good_here states starts ends found
+              ∙ starts_same (tape_of unit label) index list (checks_known (tape_of unit label) index list ok)
 
           ends_asked : take (line_count list) ends ≡ asked_ends unit label index list
           ends_asked =
-              ends-are (tape_of unit label) index list states₀ starts₀ ends₀ x y w list_good states starts ends found
-              ∙ ends_same (tape_of unit label) index list (checks-known (tape_of unit label) index list ok)
+              ends_are (tape_of unit label) index list states₀ starts₀ ends₀ x y w list_good_here states starts ends found
+              ∙ ends_same (tape_of unit label) index list (checks_known (tape_of unit label) index list ok)
 
           written : PicksWritten name list (asked_starts unit label index list) (asked_ends unit label index list) head turn out names p.picks out' names'
           written = rw (← starts_asked, ← ends_asked) (p.written (ap (λ (v : Refused). v.number) checks_are ∙ ok)).0
@@ -199,7 +199,7 @@ module _ (unit : ℕ) (name label index list head turn out names : List ℕ) whe
               let text = names_text list (asked_starts unit label index list) q.firsts q.lasts in
               let a = ltb most_entries (length q.firsts) in
               let s = ltb (length out) (length sheet) || ltb (length names) (length text) in
-              let e : first_of (picks_verdict name list (length q.firsts) ∷ text_rows_verdict sheet text out names ∷ []) ≡ first_of (refuse_if a WantRows ∷ refuse_if s ShortRow ∷ []) = rw (verdict_is name list (length q.firsts) named list_good) (two_checks a s) in
+              let e : first_of (picks_verdict name list (length q.firsts) ∷ text_rows_verdict sheet text out names ∷ []) ≡ first_of (refuse_if a WantRows ∷ refuse_if s ShortRow ∷ []) = rw (verdict_is name list (length q.firsts) named list_good_here) (two_checks a s) in
               let h = both sheet text out names p.picks out' names' a s (rw e at q.handed) in
               record {
                 firsts = q.firsts;
@@ -212,5 +212,5 @@ module _ (unit : ℕ) (name label index list head turn out names : List ℕ) whe
                     (sym (first_next (pick_refused unit name label index list) (entries_refused q.firsts ∷ rows_refused sheet text out names ∷ []) accepts)) h);
               }
 
-        pub lines_answered_here : Answered r out' names'
-        lines_answered_here = elim (dec_lt 0 (line_checks (tape_of unit label) index list).number) [ yes h ↦ refused_lines (λ s. omega arith) | no h ↦ written_lines (omega arith) ]
+        pub lines_answered_lem : Answered r out' names'
+        lines_answered_lem = elim (dec_lt 0 (line_checks (tape_of unit label) index list).number) [ yes h ↦ refused_lines (λ s. omega arith) | no h ↦ written_lines (omega arith) ]

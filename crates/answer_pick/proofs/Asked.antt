@@ -14,7 +14,7 @@ use Rattle.refusals.specs.declared.Refusal.TheVariants.{FarFile}
 use Rattle.refusals.specs.Refusals.{is_refusal, first_where, number_of, own_number_of}
 use Rattle.refusals.proofs.Verdicts.{refuses}
 use Rattle.runs.specs.Run.{last_place}
-use Rattle.runs.proofs.Search.{first-zero}
+use Rattle.runs.proofs.Search.{first_zero}
 use Rattle.text_lines.specs.Lines.{each_of}
 use Rattle.text_lines.proofs.Filling.{length_each}
 use Rattle.text_paths.specs.Paths.{line_count, path_after, paths_verdict}
@@ -24,7 +24,7 @@ use Rattle.tape_files.specs.NamedFiles.{NamedFile, named_files}
 use Rattle.tape_picks.specs.declared.Tape.{Tape}
 use Rattle.tape_picks.specs.declared.Pick.{Pick}
 use Rattle.tape_picks.specs.Picks.{files_named, file_span, has_no_bytes, pick_of, asked_pick, lines_asked, lines_answered, FilesFound}
-use Rattle.sheet_picks.proofs.Stands.{each_at, lines-few}
+use Rattle.sheet_picks.proofs.Stands.{each_at, lines_few}
 use Rattle.answer_pick.specs.declared.Refused.{Refused}
 use Rattle.answer_pick.specs.declared.lines.Test.{Test}
 use Rattle.answer_pick.specs.Picks.{asked_files, first_span, asked_span, is_unknown, is_without, is_too_far, refused_at, first_refused, first_line, line_checks}
@@ -101,7 +101,7 @@ module _ (tape : Tape) (index list : List ℕ) where
 
   module _ (known : first_line (is_unknown index list) list ≡ 0) where
     known_at : (i : ℕ) → i < line_count list → is_unknown index list i ≡ false
-    known_at i l = first-zero (is_unknown index list) (line_count list) known i l
+    known_at i l = first_zero (is_unknown index list) (line_count list) known i l
 
     without_at : (i : ℕ) → i < line_count list → is_bad Test.NoBytes (asked_pick tape index list i).state ≡ is_without tape index list i
     unfolding asked_pick asked_span asked_files
@@ -115,8 +115,8 @@ module _ (tape : Tape) (index list : List ℕ) where
     unfolding asked_pick asked_span asked_files
     end_at_here i l = one_end tape (files_named (path_after i list) (named_files (tree_of index))) (known_at i l)
 
-    pub starts_same_here : starts ≡ each_of (λ i. (asked_span tape index list i).start) (line_count list)
-    starts_same_here = each_same (λ i. (asked_pick tape index list i).start) (λ i. (asked_span tape index list i).start) (line_count list) start_at_here
+    pub starts_same : starts ≡ each_of (λ i. (asked_span tape index list i).start) (line_count list)
+    starts_same = each_same (λ i. (asked_pick tape index list i).start) (λ i. (asked_span tape index list i).start) (line_count list) start_at_here
 
     pub ends_same : ends ≡ each_of (λ i. (asked_span tape index list i).end) (line_count list)
     ends_same = each_same (λ i. (asked_pick tape index list i).end) (λ i. (asked_span tape index list i).end) (line_count list) end_at_here
@@ -159,7 +159,7 @@ module _ (tape : Tape) (index list states₀ starts₀ ends₀ : List ℕ) (a : 
   all_answered : lines_answered true list states₀ starts₀ ends₀ ≡ line_count list
   unfolding lines_asked
   all_answered =
-      let l = lines-few list v in
+      let l = lines_few list v in
       rw (v, le-leb (line_count list) (length states₀) (omega arith), le-leb (line_count list) (length starts₀) (omega arith), le-leb (line_count list) (length ends₀) (omega arith))
 
   row_is : (value : ℕ → ℕ) (row₀ row : List ℕ) → row ≡ each_of value (lines_answered true list states₀ starts₀ ends₀) ++ drop (lines_answered true list states₀ starts₀ ends₀) row₀

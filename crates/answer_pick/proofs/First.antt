@@ -1,7 +1,7 @@
 -- What is answered is the first refusal that applies, by conditions of their own.
 use Prim.Native.Nat.{ℕ, zero, suc, ◌+◌, ◌≤◌, ◌<◌}
 use mathlib.Core.Path.{◌≡◌, refl, ap, sym, ◌∙◌, subst}
-use mathlib.Core.Bool.{Bool, true, false, cond, not, ◌||◌, or_true, true≢false, false≢true}
+use mathlib.Core.Bool.{Bool, true, false, cond, not, ◌||◌, or-true, true≢false, false≢true}
 use mathlib.Core.Logic.{◌⊎◌, inl, inr, ⊎_elim}
 use mathlib.Core.List.{List, [], ◌∷◌, ◌++◌}
 use native.Mathlib.Omega.{arith}
@@ -13,7 +13,7 @@ use Rattle.refusals.specs.declared.OwnRefusal.TheVariants.{UnknownPath, NoBytes,
 use Rattle.refusals.specs.declared.Refusal.TheVariants.{BadName, BadText, FarFile, WantRows, ShortRow, BadLine, TooManyReads}
 use Rattle.refusals.specs.Refusals.{number_of, own_number_of, first_where, one_more, refuse_at, refuse_if}
 use Rattle.runs.specs.Run.{last_place}
-use Rattle.runs.proofs.Search.{first-zero, first_within, first_before, or_false_both, true_or_false}
+use Rattle.runs.proofs.Search.{first_zero, first_within, first_before, or_false_both, true_or_false}
 use Rattle.text_bytes.specs.Text.{is_name}
 use Rattle.text_lines.specs.Lines.{line_after, first_bad_of}
 use Rattle.text_paths.specs.Paths.{is_asked, line_count, most_lines, path_after, paths_verdict}
@@ -30,7 +30,7 @@ use Rattle.answer_pick.specs.Picks.{are_readable, tape_of, asked_files, asked_sp
 use Rattle.answer_pick.specs.Answer.{asked_starts, entries_refused, rows_refused, answer_of, PickAnswered}
 use Rattle.answer_pick.specs.Promises.{OnlyFile}
 use Rattle.answer_pick.specs.Applies.{FirstLineThat, HasNoFile, CannotBeRead, EndsTooFar, PickApplies, pick_order, FirstToApply, none, here, later, bad_name, bad_text, other_volume, bad_line, many_lines, unknown_path, no_bytes, far_file, many_entries, short_row, RefusesTheFirst, EntriesArePicked}
-use Rattle.answer_pick.proofs.Readable.{readable-good, good-readable}
+use Rattle.answer_pick.proofs.Readable.{readable_good, good_readable}
 use Rattle.answer_pick.proofs.Promised.{first_parts, one_named, only_one}
 
 -- A check of one number: where it accepts its condition fails, where it refuses the condition holds at its place.
@@ -83,8 +83,8 @@ first_true bad (suc n) p e = go (first_where bad n) refl (bad n) refl e (first_t
     go (suc q) f t b h rest = rest (f ∙ h)
 
 module _ (bad : ℕ → Bool) (is : ℕ → Type 0) (lines : ℕ) (to : (i : ℕ) → i < lines → bad i ≡ true → is i) (from : (i : ℕ) → i < lines → is i → bad i ≡ true) where
-  line_found : (line : ℕ) → first_where bad lines ≡ suc line → FirstLineThat is lines (suc line)
-  line_found line e =
+  line_found_here : (line : ℕ) → first_where bad lines ≡ suc line → FirstLineThat is lines (suc line)
+  line_found_here line e =
       let w : line < lines = omega (arith, first_within bad lines) in
       record {
         line = line;
@@ -94,16 +94,16 @@ module _ (bad : ℕ → Bool) (is : ℕ → Type 0) (lines : ℕ) (to : (i : ℕ
         none = λ k l a. false≢true (sym (first_before bad lines line e k l) ∙ from k (omega arith) a);
       }
 
-  line_none : first_where bad lines ≡ 0 → (p : ℕ) → FirstLineThat is lines p → ⊥
-  line_none e p f = false≢true (sym (first-zero bad lines e f.line f.listed) ∙ from f.line f.listed f.here)
+  line_none_here : first_where bad lines ≡ 0 → (p : ℕ) → FirstLineThat is lines p → ⊥
+  line_none_here e p f = false≢true (sym (first_zero bad lines e f.line f.listed) ∙ from f.line f.listed f.here)
 
   at_check : (applies : ℕ → ℕ → Type 0) (number : ℕ) → 0 < number → ((p : ℕ) → FirstLineThat is lines p → applies number p) → ((p : ℕ) → applies number p → FirstLineThat is lines p)
       → Check applies number (refused_at (first_where bad lines) number)
   at_check applies number l f g = go (first_where bad lines) refl
     where
       go : (p : ℕ) → first_where bad lines ≡ p → Check applies number (refused_at p number)
-      go zero e = record { accepts = λ _ p a. line_none e p (g p a); refuses = λ n. absurd (n refl) }
-      go (suc p) e = record { accepts = λ z. absurd (omega arith); refuses = λ _. (refl, f (suc p) (line_found p e)) }
+      go zero e = record { accepts = λ _ p a. line_none_here e p (g p a); refuses = λ n. absurd (n refl) }
+      go (suc p) e = record { accepts = λ z. absurd (omega arith); refuses = λ _. (refl, f (suc p) (line_found_here p e)) }
 
 flip : (b : Bool) → (b ≡ true → ⊥) → not b ≡ true
 flip true n = absurd (n refl)
@@ -211,10 +211,10 @@ module _ (unit : ℕ) (name label index list firsts sheet named out names : List
 
   text_check : Check Applies 20 textCheck
   text_check =
-      if_check Applies 20 (omega arith) (not (are_readable unit label index)) (λ e. bad_text (λ t. false≢true (sym (not-true (are_readable unit label index) e) ∙ good-readable unit label index t))) (λ p a. back p a)
+      if_check Applies 20 (omega arith) (not (are_readable unit label index)) (λ e. bad_text (λ t. false≢true (sym (not-true (are_readable unit label index) e) ∙ good_readable unit label index t))) (λ p a. back p a)
     where
       back : (p : ℕ) → Applies 20 p → not (are_readable unit label index) ≡ true
-      back p (bad_text n) = flip (are_readable unit label index) (λ e. n (readable-good unit label index e))
+      back p (bad_text n) = flip (are_readable unit label index) (λ e. n (readable_good unit label index e))
 
   volume_check : Check Applies 44 volumeCheck
   volume_check = if_check Applies 44 (omega arith) (other_volume (tree_of label) (tree_of index)) other_volume (λ p a. back p a)
@@ -284,7 +284,7 @@ module _ (unit : ℕ) (name label index list firsts sheet named out names : List
       to false h e = inr (ltb-true (length names) (length named) e)
 
       from : (length out < length sheet) ⊎ (length names < length named) → (ltb (length out) (length sheet) || ltb (length names) (length named)) ≡ true
-      from a = ⊎_elim (λ l. rw (lt-ltb (length out) (length sheet) l)) (λ l. rw (lt-ltb (length names) (length named) l) (or_true (ltb (length out) (length sheet)))) a
+      from a = ⊎_elim (λ l. rw (lt-ltb (length out) (length sheet) l)) (λ l. rw (lt-ltb (length names) (length named) l) (or-true (ltb (length out) (length sheet)))) a
 
       back : (p : ℕ) → Applies 8 p → (ltb (length out) (length sheet) || ltb (length names) (length named)) ≡ true
       back p (short_row a) = from a
@@ -300,8 +300,8 @@ module _ (unit : ℕ) (name label index list firsts sheet named out names : List
   accepts_so number v c clear = elim (dec_lt 0 v.number) [ yes h ↦ absurd (clear v.place (c.refuses (λ z. omega (arith, h, z))).1) | no h ↦ omega (arith, h) ]
 
   -- Where none of the first eight applies, nothing is refused up to 23.
-  pub none_refused_here : ((i place : ℕ) → i < 8 → Applies (get_or pick_order i 0) place → ⊥) → (pick_refused unit name label index list).number ≡ 0
-  none_refused_here clear =
+  pub none_refused : ((i place : ℕ) → i < 8 → Applies (get_or pick_order i 0) place → ⊥) → (pick_refused unit name label index list).number ≡ 0
+  none_refused clear =
       let early = all_flat [] in
       let zero : (first_refused (pick_refused unit name label index list ∷ [])).number ≡ 0 =
       ap (λ (x : Refused). x.number) early
@@ -348,4 +348,4 @@ refuses_the_first unit name label index list head turn out names r out' names' p
 pub entries_are_picked : EntriesArePicked
 entries_are_picked unit name label index list head turn out names r out' names' p clear =
     let starts = asked_starts unit label index list in
-    p.entries (none_refused_here unit name label index list p.firsts (picked_sheet name starts p.firsts p.lasts head turn) (names_text list starts p.firsts p.lasts) out names clear)
+    p.entries (none_refused unit name label index list p.firsts (picked_sheet name starts p.firsts p.lasts head turn) (names_text list starts p.firsts p.lasts) out names clear)

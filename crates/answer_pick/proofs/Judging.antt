@@ -14,7 +14,7 @@ use Rattle.refusals.specs.Refusals.{first_where, number_of, own_number_of, accep
 use Rattle.refusals.proofs.Verdicts.{refuses, none_refuses}
 use Rattle.text_lines.specs.Lines.{first_bad_of}
 use Rattle.text_paths.specs.Paths.{is_asked, line_count, most_lines, paths_verdict}
-use Rattle.runs.proofs.Search.{first_none, first_more, first-here, first_done}
+use Rattle.runs.proofs.Search.{first_none, first_more, first_here, first_done}
 use Rattle.answer_pick.specs.declared.Refused.{Refused}
 use Rattle.answer_pick.specs.declared.lines.Test.{Test}
 use Rattle.answer_pick.specs.Picks.{refused_if, refused_at, first_refused, list_refused}
@@ -45,7 +45,7 @@ module _ (test : Test) (row : List ℕ) where
     bad_more l t told e = record { few = omega arith; none = first_more (λ k. is_bad test (get_or row k 0)) i p.none (sym told ∙ e) }
 
     pub bad_here : i < length row → (t : Bool) → t ≡ is_bad test (get_or row i 0) → t ≡ true → i + 1 ≡ first_bad test row
-    bad_here l t told e = sym (first-here (λ k. is_bad test (get_or row k 0)) i (length row) p.none (sym told ∙ e) l)
+    bad_here l t told e = sym (first_here (λ k. is_bad test (get_or row k 0)) i (length row) p.none (sym told ∙ e) l)
 
     pub bad_nowhere : length row ≤ i → 0 ≡ first_bad test row
     bad_nowhere l = first_done (λ k. is_bad test (get_or row k 0)) i (length row) p.none p.few l

@@ -11,7 +11,7 @@ use Rattle.tape_markup.specs.Tree.{Forest, is_balanced, tree_of}
 use Rattle.tape_files.specs.declared.Label.{Label}
 use Rattle.tape_files.specs.Index.{index_name, is_none, insides, is_good_label, are_good, is_partition, letter_of, block_sizes, data_partitions, block_size_of, data_partition_of}
 use Rattle.tape_files.specs.Values.{is_value, value_in, number_field, letter_field, label_of}
-use Rattle.tape_files.proofs.Said.{field-good, field-value, number_form, letter_form}
+use Rattle.tape_files.proofs.Said.{field_good, field_value, number_form, letter_form}
 use Rattle.tape_picks.specs.declared.Tape.{Tape}
 use Rattle.tape_picks.specs.Picks.{is_readable, FilesFound}
 use Rattle.answer_pick.specs.Picks.{is_label, are_readable, tape_of}
@@ -19,11 +19,11 @@ use Rattle.answer_pick.specs.Private.{label_says, IndexRead}
 
 size_good : (label : Forest) → is_value (label_of label).size ≡ are_good is_number (block_sizes label)
 unfolding label_of
-size_good label = field-good number_field is_number value_of number_form (block_sizes label)
+size_good label = field_good number_field is_number value_of number_form (block_sizes label)
 
 partition_good : (label : Forest) → is_value (label_of label).partition ≡ are_good is_partition (data_partitions label)
 unfolding label_of
-partition_good label = field-good letter_field is_partition letter_of letter_form (data_partitions label)
+partition_good label = field_good letter_field is_partition letter_of letter_form (data_partitions label)
 
 values_are : (label : Forest) → (is_value (label_of label).size && is_value (label_of label).partition) ≡ is_good_label label
 unfolding is_good_label
@@ -35,11 +35,11 @@ module _ (label : Forest) (g : is_good_label label ≡ true) where
 
   size_value_here : value_in (label_of label).size ≡ block_size_of label
   unfolding label_of block_size_of
-  size_value_here = field-value number_field is_number value_of number_form (block_sizes label) (sym (size_good label) ∙ both.0)
+  size_value_here = field_value number_field is_number value_of number_form (block_sizes label) (sym (size_good label) ∙ both.0)
 
   partition_value_here : value_in (label_of label).partition ≡ data_partition_of label
   unfolding label_of data_partition_of
-  partition_value_here = field-value letter_field is_partition letter_of letter_form (data_partitions label) (sym (partition_good label) ∙ both.1)
+  partition_value_here = field_value letter_field is_partition letter_of letter_form (data_partitions label) (sym (partition_good label) ∙ both.1)
 
 pub label_is : (unit : ℕ) (label : List ℕ) → label_says unit label (label_of (tree_of label)) ≡ is_label unit label
 unfolding is_label

@@ -14,7 +14,7 @@ use Rattle.refusals.specs.declared.Refusal.TheVariants.{BadName, BadText, FarFil
 use Rattle.refusals.specs.Refusals.{number_of, own_number_of, first_where}
 use Rattle.refusals.proofs.Verdicts.{refuses}
 use Rattle.runs.specs.Run.{last_place, most_reads}
-use Rattle.runs.proofs.Search.{first-zero, or_false_both}
+use Rattle.runs.proofs.Search.{first_zero, or_false_both}
 use Rattle.text_bytes.specs.Text.{is_text, is_name, starts_with}
 use Rattle.text_bytes.proofs.Bytes.{and_true_both}
 use Rattle.text_bytes.proofs.Split.{whole_key}
@@ -35,7 +35,7 @@ use Rattle.sheet_picks.specs.Promises.{Wanted, ReadAgain}
 use Rattle.sheet_picks.proofs.Fitting.{picked_runs_fit, sheets_read_back}
 use Rattle.sheet_picks.proofs.InTurn.{entries_are_one}
 use Rattle.sheet_picks.proofs.Lines.{begins_itself}
-use Rattle.sheet_picks.proofs.Stands.{each_at, lines-few}
+use Rattle.sheet_picks.proofs.Stands.{each_at, lines_few}
 use Rattle.answer_pick.specs.declared.Refused.{Refused}
 use Rattle.answer_pick.specs.declared.Picked.{Picked}
 use Rattle.answer_pick.specs.Picks.{is_label, are_readable, tape_of, asked_files, first_span, asked_span, is_unknown, is_without, is_too_far, refused_if, refused_at, first_refused, first_line, list_refused, input_checks, line_checks, pick_refused}
@@ -43,7 +43,7 @@ use Rattle.answer_pick.specs.Answer.{asked_starts, asked_ends, entries_refused, 
 use Rattle.answer_pick.specs.Private.{refused_answer}
 use Rattle.answer_pick.specs.Promises.{PickIsOne, no_file, OnlyFile, FileOfLine, LinesHaveFiles, PickedAreWanted, PickTold, PickTells, PickReadsBack}
 use Rattle.answer_pick.proofs.Judging.{list_accepts}
-use Rattle.answer_pick.proofs.Spans.{span-long}
+use Rattle.answer_pick.proofs.Spans.{span_long}
 
 -- Checks that accept together accept one by one.
 pub first_parts : (v : Refused) (vs : List Refused) → (first_refused (v ∷ vs)).number ≡ 0 → (v.number ≡ 0) × ((first_refused vs).number ≡ 0)
@@ -261,7 +261,7 @@ module _ (unit : ℕ) (name label index list : List ℕ) (z : (pick_refused unit
 
   module _ (i : ℕ) (l : i < line_count list) where
     one_file : length (asked_files index list i) ≡ 1
-    one_file = eqb-true (length (asked_files index list i)) 1 (not-false (eqb (length (asked_files index list i)) 1) (first-zero (is_unknown index list) (line_count list) lines_good_here.0 i l))
+    one_file = eqb-true (length (asked_files index list i)) 1 (not-false (eqb (length (asked_files index list i)) 1) (first_zero (is_unknown index list) (line_count list) lines_good_here.0 i l))
 
     file_of_line : FileOfLine unit label index list i
     unfolding asked_span asked_files
@@ -271,18 +271,18 @@ module _ (unit : ℕ) (name label index list : List ℕ) (z : (pick_refused unit
 
     has_bytes : (asked_span (tape_of unit label) index list i).some ≡ true
     has_bytes =
-        let w = first-zero (is_without (tape_of unit label) index list) (line_count list) lines_good_here.1 i l in
+        let w = first_zero (is_without (tape_of unit label) index list) (line_count list) lines_good_here.1 i l in
         not-false (asked_span (tape_of unit label) index list i).some (or_false_both (not (asked_span (tape_of unit label) index list i).some) (asked_span (tape_of unit label) index list i).elsewhere w).0
 
-    ends_near : (asked_span (tape_of unit label) index list i).end ≤ last_place
-    ends_near = ltb-false last_place (asked_span (tape_of unit label) index list i).end (first-zero (is_too_far (tape_of unit label) index list) (line_count list) lines_good_here.2 i l)
+    ends_near_here : (asked_span (tape_of unit label) index list i).end ≤ last_place
+    ends_near_here = ltb-false last_place (asked_span (tape_of unit label) index list i).end (first_zero (is_too_far (tape_of unit label) index list) (line_count list) lines_good_here.2 i l)
 
     starts_before : (asked_span (tape_of unit label) index list i).start < (asked_span (tape_of unit label) index list i).end
     starts_before =
         let f = file_of_line in
         let some : (file_span (tape_of unit label) f.file).some ≡ true = ap (λ (s : Span). s.some) (sym f.range) ∙ has_bytes in
-        let near : (file_span (tape_of unit label) f.file).end ≤ last_place = rw f.range at ends_near in
-        rw f.range (span-long unit (block_size_of (tree_of label)) (tape_of unit label).partition counted (map extent_in f.file.extents) some near)
+        let near : (file_span (tape_of unit label) f.file).end ≤ last_place = rw f.range at ends_near_here in
+        rw f.range (span_long unit (block_size_of (tree_of label)) (tape_of unit label).partition counted (map extent_in f.file.extents) some near)
 
 -- An answer that refuses nothing.
 pub accepts_all : (v : Refused) (sheet named : List ℕ) → (answer_of v sheet named).number ≡ 0 → v.number ≡ 0
@@ -340,8 +340,8 @@ module _ (unit : ℕ) (name label index list head turn out names : List ℕ) (r 
         record {
           even = many ∙ sym ended;
           long = λ i l. let k : i < line_count list = omega arith in rw (start_at_lem i k, end_at_lem i k) (starts_before unit name label index list z i k);
-          near = λ i l. let k : i < line_count list = omega arith in rw (end_at_lem i k) (ends_near unit name label index list z i k);
-          lines = rw many (lines-few list (list_accepts list (texts_good unit name label index list z).1));
+          near = λ i l. let k : i < line_count list = omega arith in rw (end_at_lem i k) (ends_near_here unit name label index list z i k);
+          lines = rw many (lines_few list (list_accepts list (texts_good unit name label index list z).1));
           entries = p.entries z;
           few = ltb-false most_entries (length p.firsts) (if_not (ltb most_entries (length p.firsts)) (number_of WantRows) (omega arith) passed.1);
         }

@@ -11,7 +11,7 @@ use Rattle.runs.specs.Run.{last_place}
 use Rattle.tape_spans.specs.declared.Extent.{Extent}
 use Rattle.tape_spans.specs.declared.Span.{Span}
 use Rattle.tape_spans.specs.Spans.{near, byte_start, byte_end, place_start, place_end, span_with, span_from, no_span, span_of}
-use Rattle.tape_spans.proofs.Blocks.{to-byte}
+use Rattle.tape_spans.proofs.Blocks.{to_byte}
 
 -- A unit that can be counted in.
 abbrev Counted : ℕ → ℕ → Type 0
@@ -28,7 +28,7 @@ module _ (unit size partition : ℕ) (counted : Counted unit size) where
     where
       go : (t : Bool) → eqb unit 0 ≡ t → cond t (byte_start size e) (byte_start size e / size) < cond t (byte_end size e) ((byte_end size e + (size - 1)) / size)
       go true h = omega arith
-      go false h = to-byte size (byte_start size e) (byte_end size e) (byte_start size e / size) (counted h) (byte_start size e) (omega arith) refl
+      go false h = to_byte size (byte_start size e) (byte_end size e) (byte_start size e / size) (counted h) (byte_start size e) (omega arith) refl
 
   lying_with : (span : Span) (e : Extent) → Lying span → Lying (span_with unit size partition span e)
   unfolding span_with

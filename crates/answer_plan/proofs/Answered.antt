@@ -20,7 +20,7 @@ use Rattle.sheet_reader.specs.Sheet.{sheet_run, sheet_name}
 use Rattle.sheet_reader.specs.Reading.{read_name}
 use Rattle.sheet_runs.specs.declared.SheetRun.{SheetRun}
 use Rattle.sheet_runs.specs.SheetRuns.{filled_up, run_by_value, run_held}
-use Rattle.sheet_runs.proofs.Runs.{SheetHolds, refused-first, sheet-holds}
+use Rattle.sheet_runs.proofs.Runs.{SheetHolds, refused_first, sheet_holds}
 use Rattle.sheet_writer.specs.declared.Written.{Written}
 use Rattle.sheet_writer.specs.Writing.{Handed, row_verdict}
 use Rattle.sheet_writer.specs.RefusalLines.{refusal_text, RefusalWritten}
@@ -29,7 +29,7 @@ use Rattle.sheet_writer.proofs.Sheets.{last_verdict}
 use Rattle.answer_plan.specs.declared.PlannedList.{PlannedList}
 use Rattle.answer_plan.specs.Recall.{verdict_by, TextOf, SheetGiven, SheetRecalledBy}
 use Rattle.answer_plan.specs.PlannedLists.{ListsRun, RunListed, WrittenBy, ListWritten, TextHanded}
-use Rattle.answer_plan.proofs.Planned.{handed-bytes, handed-row}
+use Rattle.answer_plan.proofs.Planned.{handed_bytes, handed_row}
 
 -- What is written of a name, a run and a list that are equal to others.
 pub moved : (Writes : List ℕ → Run → List ℕ → List ℕ → List ℕ → Written → List ℕ → Type 0) {name name' : List ℕ} {run run' : Run} {froms froms' tos tos' row : List ℕ} {w : Written} {row' : List ℕ}
@@ -83,22 +83,22 @@ module _ (checks : Run → List Verdict) (sheet : List ℕ) (r : SheetRun) (is :
   v = first_of (r.verdict ∷ checks (run_held r))
 
   -- The verdict on the run by value is that on the sheet.
-  pub verdict_is_here : v ≡ verdict_by checks sheet
+  pub verdict_is : v ≡ verdict_by checks sheet
   unfolding verdict_by
-  verdict_is_here = go (refuses r.verdict) refl
+  verdict_is = go (refuses r.verdict) refl
     where
       go : (b : Bool) → refuses r.verdict ≡ b → v ≡ verdict_by checks sheet
-      go true e = sym (first_refuses r.verdict (checks (run_held r)) e) ∙ refused-first sheet r is true (sym e) refl (checks (sheet_run sheet))
+      go true e = sym (first_refuses r.verdict (checks (run_held r)) e) ∙ refused_first sheet r is true (sym e) refl (checks (sheet_run sheet))
       go false e =
-          let h = sheet-holds sheet r is false (sym e) refl in
+          let h = sheet_holds sheet r is false (sym e) refl in
           first_passes r.verdict (checks (run_held r)) e ∙ ap (λ x. first_of (checks x)) h.run ∙ h.decides (checks (sheet_run sheet))
 
   pub holds : refuses v ≡ false → SheetHolds sheet r
-  holds e = sheet-holds sheet r is false (sym (all_accept (r.verdict ∷ checks (run_held r)) e).0) refl
+  holds e = sheet_holds sheet r is false (sym (all_accept (r.verdict ∷ checks (run_held r)) e).0) refl
 
   -- The list by value is refused as the sheet is.
-  pub list_refused_here : {Least : Run → List Detour → Type 0} (l : PlannedList) → ListsRun Least checks r l → refuses v ≡ true → l.verdict ≡ verdict_by checks sheet
-  list_refused_here l listed e = ap (λ x. x.verdict) (listed.refused e) ∙ verdict_is_here
+  pub list_refused_lem : {Least : Run → List Detour → Type 0} (l : PlannedList) → ListsRun Least checks r l → refuses v ≡ true → l.verdict ≡ verdict_by checks sheet
+  list_refused_lem l listed e = ap (λ x. x.verdict) (listed.refused e) ∙ verdict_is
 
   -- A writer's text of it is that of the sheet's run.
   module _ (judged : Run → Verdict) (ruled : Run → List ℕ → List ℕ → Verdict) (Least : Run → List Detour → Type 0) (text_of : List ℕ → Run → List ℕ → List ℕ → List ℕ)
@@ -134,9 +134,9 @@ module _ (checks : Run → List Verdict) (sheet : List ℕ) (r : SheetRun) (is :
           let handed = written.refused (ap refuses says ∙ e) in
           record {
             text = refusal_text l.verdict;
-            answers = record { refused = λ q. ap refusal_text (list_refused_here l listed e); planned = λ q. absurd (true≢false (sym e ∙ ap refuses verdict_is_here ∙ q)) };
-            bytes = written.bytes ∙ handed-bytes (refusal_text l.verdict) row written.text row' handed;
-            left = handed-row (refusal_text l.verdict) row written.text row' handed;
+            answers = record { refused = λ q. ap refusal_text (list_refused_lem l listed e); planned = λ q. absurd (true≢false (sym e ∙ ap refuses verdict_is ∙ q)) };
+            bytes = written.bytes ∙ handed_bytes (refusal_text l.verdict) row written.text row' handed;
+            left = handed_row (refusal_text l.verdict) row written.text row' handed;
           }
 
       given_planned : refuses v ≡ false → SheetGiven (TextOf Least text_of) checks sheet row n row'
@@ -144,9 +144,9 @@ module _ (checks : Run → List Verdict) (sheet : List ℕ) (r : SheetRun) (is :
           let t = text_handed e row written.text row' (written.planned (ap (λ x. refuses x.verdict) (listed.planned e).says)) in
           record {
             text = t.text;
-            answers = record { refused = λ q. absurd (true≢false (sym q ∙ sym (ap refuses verdict_is_here) ∙ e)); planned = λ q. t.asked };
-            bytes = written.bytes ∙ handed-bytes t.text row written.text row' t.handed;
-            left = handed-row t.text row written.text row' t.handed;
+            answers = record { refused = λ q. absurd (true≢false (sym q ∙ sym (ap refuses verdict_is) ∙ e)); planned = λ q. t.asked };
+            bytes = written.bytes ∙ handed_bytes t.text row written.text row' t.handed;
+            left = handed_row t.text row written.text row' t.handed;
           }
 
       pub given : SheetGiven (TextOf Least text_of) checks sheet row n row'

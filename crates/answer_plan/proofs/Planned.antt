@@ -16,7 +16,7 @@ use Rattle.runs.specs.Alone.{zeros}
 use Rattle.runs.specs.Judging.{judge_of}
 use Rattle.runs.specs.Lists.{Detour}
 use Rattle.runs.proofs.Judged.{accepted_run}
-use Rattle.runs.proofs.Stops.{stops-few}
+use Rattle.runs.proofs.Stops.{stops_few}
 use Rattle.walk.specs.declared.Answer.{Answer}
 use Rattle.walk.specs.Price.{refusal_answer, priced_answer}
 use Rattle.planner.specs.Plan.{Plans, Planned, plan_verdict}
@@ -68,7 +68,7 @@ module _ (run : Run) (rows : Rows) (lent : Lent rows) where
       go true e = rw e
       go false e =
           let few = (accepted_run run e).wants.few in
-          let stops = stops-few run (accepted_run run e) in
+          let stops = stops_few run (accepted_run run e) in
           rw (e, le-ltb (length rows.times) (length run.numbers) (omega (arith, few, lent.times)), le-ltb (length rows.legs) (length run.numbers) (omega (arith, few, lent.legs)), le-ltb (length rows.froms) (length (stops_of run) - 1) (omega (arith, few, stops, lent.froms)), le-ltb (length rows.tos) (length (stops_of run) - 1) (omega (arith, few, stops, lent.tos)), lent.room)
 
   module _ (a : Answer) (after : Rows) (plans : Plans run rows a after) (f : Bool) (f-is : f ≡ is_refusal a.refusal) where

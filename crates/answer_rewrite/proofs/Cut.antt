@@ -17,10 +17,10 @@ use Rattle.text_bytes.proofs.Bytes.{begun_long}
 use Rattle.text_bytes.proofs.Split.{has_here}
 use Rattle.text_lines.specs.Lines.{after_lines, line_after}
 use Rattle.sheet_reader.specs.Lines.{turn_key}
-use Rattle.sheet_reader.proofs.Good.{tape-begun, head-begun, turn_begun, line-split, line-flat}
+use Rattle.sheet_reader.proofs.Good.{tape_begun, head_begun, turn_begun, line_split, line_flat}
 use Rattle.answer_rewrite.specs.Rewriting.{price_is_empty, bytes_before, zero_at, rewritten}
 use Rattle.answer_rewrite.specs.Private.{Readable, LineAt, PriceFound}
-use Rattle.answer_rewrite.proofs.Filling.{zero-long}
+use Rattle.answer_rewrite.proofs.Filling.{zero_long}
 
 -- A byte that a text has not stands at none of its places.
 none_at : (c : ℕ) (text : List ℕ) (i : ℕ) → has c text ≡ false → i < length text → get_or text i 0 ≡ c → ⊥
@@ -37,15 +37,15 @@ none_at c (b ∷ text) (suc i) e l is = none_at c text i (rest (eqb b c) e) (ome
 module _ (sheet : List ℕ) (good : Readable sheet) where
   pub tape_split : sheet ≡ line_after 0 sheet ++ (line_feed ∷ after_lines 1 sheet)
   unfolding after_lines
-  tape_split = line-split (code "t") (bytes "ape=") sheet (tape-begun sheet good)
+  tape_split = line_split (code "t") (bytes "ape=") sheet (tape_begun sheet good)
 
   pub head_split : after_lines 1 sheet ≡ line_after 1 sheet ++ (line_feed ∷ after_lines 2 sheet)
   unfolding after_lines
-  head_split = line-split (code "h") (bytes "ead=") (after_lines 1 sheet) (head-begun sheet good)
+  head_split = line_split (code "h") (bytes "ead=") (after_lines 1 sheet) (head_begun sheet good)
 
   pub turn_split : after_lines 2 sheet ≡ line_after 2 sheet ++ (line_feed ∷ after_lines 3 sheet)
   unfolding after_lines
-  turn_split = line-split (code "t") (bytes "urn=") (after_lines 2 sheet) (turn_begun sheet good)
+  turn_split = line_split (code "t") (bytes "urn=") (after_lines 2 sheet) (turn_begun sheet good)
 
   tape_ends : has line_feed sheet ≡ true
   tape_ends = ap (has line_feed) tape_split ∙ has_here line_feed (line_after 0 sheet) (after_lines 1 sheet)
@@ -56,13 +56,13 @@ module _ (sheet : List ℕ) (good : Readable sheet) where
 
   pub tape_flat : has line_feed (line_after 0 sheet) ≡ false
   unfolding after_lines
-  tape_flat = line-flat (code "t") (bytes "ape=") sheet (tape-begun sheet good)
+  tape_flat = line_flat (code "t") (bytes "ape=") sheet (tape_begun sheet good)
 
   pub head_flat : has line_feed (line_after 1 sheet) ≡ false
-  head_flat = line-flat (code "h") (bytes "ead=") (after_lines 1 sheet) (head-begun sheet good)
+  head_flat = line_flat (code "h") (bytes "ead=") (after_lines 1 sheet) (head_begun sheet good)
 
   pub turn_flat : has line_feed (line_after 2 sheet) ≡ false
-  turn_flat = line-flat (code "t") (bytes "urn=") (after_lines 2 sheet) (turn_begun sheet good)
+  turn_flat = line_flat (code "t") (bytes "urn=") (after_lines 2 sheet) (turn_begun sheet good)
 
   turn_long : 5 ≤ length (line_after 2 sheet)
   turn_long = begun_long turn_key (line_after 2 sheet) (turn_begun sheet good)
@@ -76,8 +76,8 @@ module _ (sheet : List ℕ) (good : Readable sheet) where
       first_at : FirstAt line_feed sheet i
       first_at = subst (λ x. FoundIn line_feed sheet x) e found
 
-      pub first_within_here : i + 1 ≤ length sheet
-      first_within_here = omega (arith, first_at.within)
+      pub first_within : i + 1 ≤ length sheet
+      first_within = omega (arith, first_at.within)
 
       first_rest : drop (i + 1) sheet ≡ behind line_feed sheet
       first_rest = sym first_at.back
@@ -131,8 +131,8 @@ module _ (sheet : List ℕ) (good : Readable sheet) where
     price_byte = sym (get_or-drop at sheet 5 0) ∙ ap (λ t. get_or t 5 0) (line.rest ∙ turn_split)
 
     -- An LF there says that the key is the whole line.
-    line_whole : get_or sheet (at + 5) 0 ≡ line_feed → length (line_after 2 sheet) ≡ 5
-    line_whole e =
+    line_whole_here : get_or sheet (at + 5) 0 ≡ line_feed → length (line_after 2 sheet) ≡ 5
+    line_whole_here e =
         elim (dec_lt 5 (length (line_after 2 sheet))) [
           | yes l ↦ absurd (none_at line_feed (line_after 2 sheet) 5 turn_flat l (sym (get_or-append (line_after 2 sheet) (line_feed ∷ after_lines 3 sheet) 0 5 l) ∙ sym price_byte ∙ e))
           | no n ↦ omega (arith, turn_long)
@@ -148,13 +148,13 @@ module _ (sheet : List ℕ) (good : Readable sheet) where
     pub price_empty : get_or sheet (at + 5) 0 ≡ line_feed → PriceFound sheet (record { empty = true; at = at + 5; bytes = length sheet + 1 })
     unfolding rewritten price_is_empty
     price_empty e =
-        let whole : eqb 5 (length (line_after 2 sheet)) ≡ true = eq-eqb 5 (length (line_after 2 sheet)) (sym (line_whole e)) in
+        let whole : eqb 5 (length (line_after 2 sheet)) ≡ true = eq-eqb 5 (length (line_after 2 sheet)) (sym (line_whole_here e)) in
         let is : rewritten sheet ≡ zero_at (at + 5) sheet = rw (whole, turn_begun sheet good, bytes_before_here) in
-        record { within = omega (arith, price_within); result = sym is; long = sym (ap length is ∙ zero-long sheet (at + 5) (omega (arith, price_within))) }
+        record { within = omega (arith, price_within); result = sym is; long = sym (ap length is ∙ zero_long sheet (at + 5) (omega (arith, price_within))) }
 
-    pub price_given_here : (get_or sheet (at + 5) 0 ≡ line_feed → ⊥) → PriceFound sheet (record { empty = false; at = at + 5; bytes = length sheet })
+    pub price_given : (get_or sheet (at + 5) 0 ≡ line_feed → ⊥) → PriceFound sheet (record { empty = false; at = at + 5; bytes = length sheet })
     unfolding rewritten price_is_empty
-    price_given_here n =
+    price_given n =
         let more : eqb 5 (length (line_after 2 sheet)) ≡ false = ne_eqb 5 (length (line_after 2 sheet)) (λ e. omega (arith, e, line_more n)) in
         let is : rewritten sheet ≡ sheet = rw more in
         record { within = omega (arith, price_within); result = sym is; long = sym (ap length is) }

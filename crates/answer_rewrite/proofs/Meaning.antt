@@ -16,10 +16,10 @@ use Rattle.text_bytes.proofs.Split.{has_here, before_here, behind_here, whole_ke
 use Rattle.text_lines.specs.Lines.{line_of, after_lines, line_after, value_text}
 use Rattle.sheet_reader.specs.Lines.{turn_key, is_turn_line, turn_with}
 use Rattle.sheet_reader.specs.Sheet.{sheet_head, sheet_turn_with, says_sweep, sheet_files, file_text, wants_text, sheet_wants, want_text, end_text, first_bad_top, first_bad_below, first_bad_line, sheet_run_with, sheet_name}
-use Rattle.sheet_reader.proofs.Good.{turn_begun, no-bad-line}
+use Rattle.sheet_reader.proofs.Good.{turn_begun, no_bad_line}
 use Rattle.answer_rewrite.specs.Rewriting.{price_is_empty, bytes_before, rewritten}
 use Rattle.answer_rewrite.specs.Private.{Readable}
-use Rattle.answer_rewrite.proofs.Cut.{tape-split, head-split, turn-split, tape-flat, head-flat}
+use Rattle.answer_rewrite.proofs.Cut.{tape_split, head_split, turn_split, tape_flat, head_flat}
 
 -- Sheets that differ in the third line only.
 pub record SameBeside (s t : List ℕ) : Type 0 where
@@ -66,9 +66,9 @@ module _ (s t : List ℕ) (same : SameBeside s t) where
   unfolding says_sweep
   rule_same = rw same.rest
 
-  pub name_same_here : sheet_name s ≡ sheet_name t
+  pub name_same : sheet_name s ≡ sheet_name t
   unfolding sheet_name
-  name_same_here = rw same.tape
+  name_same = rw same.tape
 
   pub run_same : (e f : ℕ) → turn_with e (line_after 2 s) ≡ turn_with f (line_after 2 t) → sheet_run_with e s ≡ sheet_run_with f t
   unfolding sheet_head sheet_turn_with
@@ -136,7 +136,7 @@ once sheet given = rw given
 
 -- A readable sheet with an empty price, cut at it.
 module _ (sheet : List ℕ) (good : Readable sheet) (empty : price_is_empty sheet ≡ true) where
-  turn_line : line_after 2 sheet ≡ turn_key
+  turn_line_here : line_after 2 sheet ≡ turn_key
   unfolding price_is_empty
   turn_line_here =
       let both = and_true_both (eqb (length turn_key) (length (line_after 2 sheet))) (starts_with turn_key (line_after 2 sheet)) empty in
@@ -153,13 +153,13 @@ module _ (sheet : List ℕ) (good : Readable sheet) (empty : price_is_empty shee
       ∙ ap (λ y. line_after 0 sheet ++ (line_feed ∷ y)) (append_assoc (line_after 1 sheet) (line_feed ∷ []) x)
 
   pub upper_rest : sheet ≡ upper ++ after_lines 2 sheet
-  upper_rest = tape-split sheet good ∙ ap (λ y. line_after 0 sheet ++ (line_feed ∷ y)) (head-split sheet good) ∙ sym (upper_then (after_lines 2 sheet))
+  upper_rest = tape_split sheet good ∙ ap (λ y. line_after 0 sheet ++ (line_feed ∷ y)) (head_split sheet good) ∙ sym (upper_then (after_lines 2 sheet))
 
-  pub rest_is_here : after_lines 2 sheet ≡ turn_key ++ (line_feed ∷ after_lines 3 sheet)
-  rest_is_here = turn-split sheet good ∙ ap (λ y. y ++ (line_feed ∷ after_lines 3 sheet)) turn_line_here
+  pub rest_is : after_lines 2 sheet ≡ turn_key ++ (line_feed ∷ after_lines 3 sheet)
+  rest_is = turn_split sheet good ∙ ap (λ y. y ++ (line_feed ∷ after_lines 3 sheet)) turn_line_here
 
   pub old_cut : sheet ≡ (upper ++ turn_key) ++ (line_feed ∷ after_lines 3 sheet)
-  old_cut = upper_rest ∙ ap (λ y. upper ++ y) rest_is_here ∙ sym (append_assoc upper turn_key (line_feed ∷ after_lines 3 sheet))
+  old_cut = upper_rest ∙ ap (λ y. upper ++ y) rest_is ∙ sym (append_assoc upper turn_key (line_feed ∷ after_lines 3 sheet))
 
   before_is : length (upper ++ turn_key) ≡ bytes_before sheet
   unfolding bytes_before
@@ -181,15 +181,15 @@ module _ (sheet : List ℕ) (good : Readable sheet) (empty : price_is_empty shee
   zero_line_here : line_after 2 (rewritten sheet) ≡ zero_line
   zero_line_here =
       ap (line_after 2) in_lines
-      ∙ line_third (line_after 0 sheet) (line_after 1 sheet) zero_line (after_lines 3 sheet) (tape-flat sheet good) (head-flat sheet good) zero_flat
+      ∙ line_third (line_after 0 sheet) (line_after 1 sheet) zero_line (after_lines 3 sheet) (tape_flat sheet good) (head_flat sheet good) zero_flat
 
   same_beside : SameBeside (rewritten sheet) sheet
   same_beside =
       record {
-        tape = ap (line_after 0) in_lines ∙ line_first (line_after 0 sheet) (line_after 1 sheet) zero_line (after_lines 3 sheet) (tape-flat sheet good) (head-flat sheet good) zero_flat;
-        head = ap (line_after 1) in_lines ∙ line_second (line_after 0 sheet) (line_after 1 sheet) zero_line (after_lines 3 sheet) (tape-flat sheet good) (head-flat sheet good) zero_flat;
+        tape = ap (line_after 0) in_lines ∙ line_first (line_after 0 sheet) (line_after 1 sheet) zero_line (after_lines 3 sheet) (tape_flat sheet good) (head_flat sheet good) zero_flat;
+        head = ap (line_after 1) in_lines ∙ line_second (line_after 0 sheet) (line_after 1 sheet) zero_line (after_lines 3 sheet) (tape_flat sheet good) (head_flat sheet good) zero_flat;
         turn = ap is_turn_line zero_line_here ∙ zero_good ∙ sym empty_good ∙ ap is_turn_line (sym turn_line_here);
-        rest = ap (after_lines 3) in_lines ∙ after_third (line_after 0 sheet) (line_after 1 sheet) zero_line (after_lines 3 sheet) (tape-flat sheet good) (head-flat sheet good) zero_flat;
+        rest = ap (after_lines 3) in_lines ∙ after_third (line_after 0 sheet) (line_after 1 sheet) zero_line (after_lines 3 sheet) (tape_flat sheet good) (head_flat sheet good) zero_flat;
       }
 
   zero_stands : price_is_empty (rewritten sheet) ≡ false
@@ -232,18 +232,18 @@ keeps sheet good = go (price_is_empty sheet) refl
     go true e =
         let same = same_beside sheet good e in
         record {
-          lines = lines_same (rewritten sheet) sheet same ∙ no-bad-line sheet good;
+          lines = lines_same (rewritten sheet) sheet same ∙ no_bad_line sheet good;
           files = files_same (rewritten sheet) sheet same;
           wants = wants_same (rewritten sheet) sheet same;
           run = λ x. run_same (rewritten sheet) sheet same x 0 (ap (turn_with x) (zero_line_here sheet good e) ∙ zero_means x ∙ sym (empty_means 0) ∙ ap (turn_with 0) (sym (turn_line_here sheet good e)));
           rule = rule_same (rewritten sheet) sheet same;
-          name = name_same_here (rewritten sheet) sheet same;
+          name = name_same (rewritten sheet) sheet same;
           again = no_more sheet good e;
         }
     go false e =
         let is = unchanged sheet good e in
         record {
-          lines = ap first_bad_line is ∙ no-bad-line sheet good;
+          lines = ap first_bad_line is ∙ no_bad_line sheet good;
           files = ap sheet_files is;
           wants = ap sheet_wants is;
           run = λ x. ap (sheet_run_with x) is ∙ run_same sheet sheet (record { tape = refl; head = refl; turn = refl; rest = refl }) x 0 (price_stands sheet good e x);

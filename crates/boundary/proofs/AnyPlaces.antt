@@ -14,12 +14,12 @@ use Rattle.runs.specs.Run.{Run, stops_of}
 use Rattle.runs.specs.Lists.{list_of, bad_entry}
 use Rattle.runs.specs.AnyHead.{judge_any_of, bad_entry_any, first_bad_entry_any, list_verdict_any, lifted}
 use Rattle.runs.proofs.Search.{or_false_both, first_before}
-use Rattle.runs.proofs.Stops.{run_sound, stops-few}
+use Rattle.runs.proofs.Stops.{run_sound, stops_few}
 use Rattle.runs.proofs.AnyHead.{GoodAnyRun, judge_any_lem, accepted_any}
 use Rattle.walk.specs.Price.{short_read_rows}
 use Rattle.walk.specs.AnyHead.{price_any_verdict}
 use Rattle.walk.specs.Rows.{ReadRows}
-use Rattle.walk.proofs.Walks.{GoodEntry, good_entry, entries-few, entries_none}
+use Rattle.walk.proofs.Walks.{GoodEntry, good_entry, entries_few, entries_none}
 use Rattle.walk.proofs.Places.{place_most, first_near, if_near, at_near, judge_near}
 
 pub judge_any_near : (r : Run) → (judge_any_of r).place ≤ place_most
@@ -38,7 +38,7 @@ module _ (r : Run) (good : GoodAnyRun r) (froms tos : List ℕ) where
       in
       by_cases
       (dec_lt 0 (length (stops_of r)))
-      (λ some. omega (arith, entries-few (stops_of r) _ sound (list_of froms tos) i each some, stops-few (lifted r) good.run, good.run.wants.few))
+      (λ some. omega (arith, entries_few (stops_of r) _ sound (list_of froms tos) i each some, stops_few (lifted r) good.run, good.run.wants.few))
       (λ none. omega (arith, entries_none (stops_of r) _ sound (list_of froms tos) i each (omega arith)))
 
   list_near : (list_verdict_any r.head (stops_of r) froms tos).place ≤ place_most

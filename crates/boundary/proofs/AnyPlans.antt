@@ -1,7 +1,7 @@
 -- The call of the planner for a head anywhere: 8 for the row of sums too, and else the planner's own answer.
 use Prim.Native.Nat.{ℕ, ◌+◌, ◌*◌, ◌≤◌, ◌<◌}
 use mathlib.Core.Path.{◌≡◌, refl, sym, ap, ◌∙◌}
-use mathlib.Core.Bool.{Bool, true, false, true≢false, or_true, or_false}
+use mathlib.Core.Bool.{Bool, true, false, true≢false, or-true, or-false}
 use mathlib.Core.Logic.{⊎_elim}
 use mathlib.Core.List.{List, [], ◌∷◌}
 use native.Mathlib.Omega.{arith}
@@ -18,7 +18,7 @@ use Rattle.runs.proofs.Search.{true_or_false}
 use Rattle.walk.specs.declared.Answer.{Answer}
 use Rattle.walk.specs.AnyHead.{priced_any_answer}
 use Rattle.walk.proofs.Places.{place_most, first_near, if_near}
-use Rattle.planner.proofs.Determined.{planned-any-once}
+use Rattle.planner.proofs.Determined.{planned_any_once}
 use Rattle.planner.specs.Plan.{short_rows, room_for}
 use Rattle.planner.specs.AnyHead.{PlansAny, plan_any_verdict}
 use Rattle.planner.specs.Rows.{Rows}
@@ -37,11 +37,11 @@ plan_near r rows =
 module _ (r : Run) (rows : Rows) (sums : List ℕ) where
   sums_first : ltb (length sums) 4 ≡ true → plan_any_call r rows sums ≡ first_of (judge_any_of r ∷ record { refusal = ShortRow; place = 0 } ∷ [])
   unfolding plan_any_call
-  sums_first s = rw (s, or_true)
+  sums_first s = rw (s, or-true)
 
   call_is_plan : ltb (length sums) 4 ≡ false → plan_any_call r rows sums ≡ plan_any_verdict r rows
   unfolding plan_any_call plan_any_verdict
-  call_is_plan s = rw (s, or_false)
+  call_is_plan s = rw (s, or-false)
 
   -- A refused call, whatever the reason: code and kept rows.
   refused_call_here : (v : Verdict) (code : ℕ) → plan_any_call r rows sums ≡ v → refuses v ≡ true → code ≡ code_of v → PlanAnyCalled r rows sums code rows sums
@@ -108,5 +108,5 @@ module _ (r : Run) (before : Rows) (sums : List ℕ) (code code' : ℕ) (after a
       go false e =
           let c = p.planned e in
           let d = q.planned e in
-          let same = planned-any-once r before c.answer d.answer after after' c.planned d.planned in
+          let same = planned_any_once r before c.answer d.answer after after' c.planned d.planned in
           (c.says ∙ sym d.says, (same.1, c.sums_are ∙ ap (λ a. sums_with a sums) same.0 ∙ sym d.sums_are))

@@ -190,9 +190,9 @@ module _ (r : Run) (froms tos : List ℕ) where
   unfolding price_reads price_call price_verdict
   short_reads row sums l = rw (call_core (judge_of r) list (short_read_rows (length r.numbers) row) sums l, core_refuses (judge_of r) list)
 
-  pub short_sums : (row : ReadRows) (sums : List ℕ) → length sums < 4 → sums ≡ price_sums r froms tos row sums
+  pub short_sums_lem : (row : ReadRows) (sums : List ℕ) → length sums < 4 → sums ≡ price_sums r froms tos row sums
   unfolding price_sums price_call price_verdict
-  short_sums_here row sums l = rw (call_core (judge_of r) list (short_read_rows (length r.numbers) row) sums l, core_refuses (judge_of r) list)
+  short_sums_lem row sums l = rw (call_core (judge_of r) list (short_read_rows (length r.numbers) row) sums l, core_refuses (judge_of r) list)
 
 -- The pricer for a head anywhere.
 module _ (r : Run) (froms tos : List ℕ) where
@@ -224,25 +224,25 @@ module _ (r : Run) (froms tos : List ℕ) where
       unfolding price_any_sums price_any_call price_any_verdict price_any_answer
       any_call_sums_filled out a l h is e = parts_filled (anyParts r froms tos row) sums l out h a is e
 
-  abbrev any-list : Verdict
-  any-list = list_verdict_any r.head (stops_of r) froms tos
+  abbrev any_list : Verdict
+  any_list = list_verdict_any r.head (stops_of r) froms tos
 
   pub any_short_refused : (n : ℕ) → n ≡ code_of (price_any_verdict r froms tos (read_rows [] [])) → (n ≡ 0 → ⊥) → (row : ReadRows) (sums : List ℕ) → length sums < 4 → n ≡ code_of (price_any_call r froms tos row sums)
   unfolding price_any_call price_any_verdict
   any_short_refused n e some row sums l =
-      refused_core (judge_any_of r) any-list (short_read_rows (length r.numbers) (read_rows [] [])) n e some
-      ∙ ap code_of (sym (call_core (judge_any_of r) any-list (short_read_rows (length r.numbers) row) sums l))
+      refused_core (judge_any_of r) any_list (short_read_rows (length r.numbers) (read_rows [] [])) n e some
+      ∙ ap code_of (sym (call_core (judge_any_of r) any_list (short_read_rows (length r.numbers) row) sums l))
 
   pub any_short_accepted : code_of (price_any_verdict r froms tos (read_rows [] [])) ≡ 0 → (row : ReadRows) (sums : List ℕ) → length sums < 4 → 8 ≡ code_of (price_any_call r froms tos row sums)
   unfolding price_any_call price_any_verdict
   any_short_accepted e row sums l =
-      accepted_core (judge_any_of r) any-list (short_read_rows (length r.numbers) (read_rows [] [])) e
-      ∙ ap code_of (sym (call_core (judge_any_of r) any-list (short_read_rows (length r.numbers) row) sums l))
+      accepted_core (judge_any_of r) any_list (short_read_rows (length r.numbers) (read_rows [] [])) e
+      ∙ ap code_of (sym (call_core (judge_any_of r) any_list (short_read_rows (length r.numbers) row) sums l))
 
   pub any_short_reads : (row : ReadRows) (sums : List ℕ) → length sums < 4 → row ≡ price_any_reads r froms tos row sums
   unfolding price_any_reads price_any_call price_any_verdict
-  any_short_reads row sums l = rw (call_core (judge_any_of r) any-list (short_read_rows (length r.numbers) row) sums l, core_refuses (judge_any_of r) any-list)
+  any_short_reads row sums l = rw (call_core (judge_any_of r) any_list (short_read_rows (length r.numbers) row) sums l, core_refuses (judge_any_of r) any_list)
 
   pub any_short_sums : (row : ReadRows) (sums : List ℕ) → length sums < 4 → sums ≡ price_any_sums r froms tos row sums
   unfolding price_any_sums price_any_call price_any_verdict
-  any_short_sums row sums l = rw (call_core (judge_any_of r) any-list (short_read_rows (length r.numbers) row) sums l, core_refuses (judge_any_of r) any-list)
+  any_short_sums row sums l = rw (call_core (judge_any_of r) any_list (short_read_rows (length r.numbers) row) sums l, core_refuses (judge_any_of r) any_list)

@@ -1,7 +1,7 @@
 -- The planner's call: 14 after 7, 8 for the row of sums too, and else the planner's own answer.
 use Prim.Native.Nat.{ℕ, ◌+◌, ◌*◌, ◌≤◌, ◌<◌}
 use mathlib.Core.Path.{◌≡◌, refl, sym, ap, ◌∙◌}
-use mathlib.Core.Bool.{Bool, true, false, true≢false, or_true, or_false}
+use mathlib.Core.Bool.{Bool, true, false, true≢false, or-true, or-false}
 use mathlib.Core.Logic.{⊎_elim}
 use mathlib.Core.List.{List, [], ◌∷◌}
 use native.Mathlib.Omega.{arith}
@@ -34,11 +34,11 @@ module _ (r : Run) (rule : ℕ) (rows : Rows) (sums : List ℕ) where
 
   sums_first : bad_rule rule ≡ false → ltb (length sums) 4 ≡ true → plan_call r rule rows sums ≡ first_of (judge_of r ∷ record { refusal = ShortRow; place = 0 } ∷ [])
   unfolding plan_call
-  sums_first g s = rw (g, s, or_true)
+  sums_first g s = rw (g, s, or-true)
 
   call_is_plan : bad_rule rule ≡ false → ltb (length sums) 4 ≡ false → plan_call r rule rows sums ≡ plan_verdict r rows
   unfolding plan_call plan_verdict
-  call_is_plan g s = rw (g, s, or_false)
+  call_is_plan g s = rw (g, s, or-false)
 
 plan_near : (r : Run) (rows : Rows) → (plan_verdict r rows).place ≤ place_most
 unfolding plan_verdict
@@ -70,8 +70,8 @@ module _ (r : Run) (number : ℕ) (v : Verdict) (f : Bool) (v-is : v ≡ judge_o
   pub run_code : f ≡ true → (a : Answer) → a ≡ refusal_answer v → (code : ℕ) → code ≡ number_of a.refusal + 256 * a.place → code ≡ code_unless (judge_of r) number
   run_code e a a-is code code_is = rw (test_says v-is f-is e) (rw (a-is, v-is) at code_is)
 
-  pub own_number_here : f ≡ false → number ≡ code_unless (judge_of r) number
-  own_number_here e = rw (test_says v-is f-is e) refl
+  pub own_number_lem : f ≡ false → number ≡ code_unless (judge_of r) number
+  own_number_lem e = rw (test_says v-is f-is e) refl
 
 module _ (r : Run) (rule : ℕ) (rows : Rows) (sums : List ℕ) where
   early : (k : Refusal) → is_refusal k ≡ true → plan_call r rule rows sums ≡ first_of (judge_of r ∷ record { refusal = k; place = 0 } ∷ [])

@@ -23,9 +23,9 @@ use Rattle.boundary.specs.Boundary.{code_of, sums_with}
 use Rattle.boundary_desk.specs.Records.{table_at, records_with, lasts_in, with_lasts, with_first, places_if}
 use Rattle.boundary_desk.specs.Calls.{filing_of, file_call, FileAnswered, FileCalled, withdrawal_of, withdraw_call, WithdrawAnswered, WithdrawCalled, boarding_of, board_places, taken_with, BoardCalled, one_line, EventCalled}
 use Rattle.boundary_desk.specs.Private.{CanSettle, Settled}
-use Rattle.boundary_desk.proofs.Filling.{table-long}
-use Rattle.boundary_desk.proofs.Taking.{leaves-so}
-use Rattle.boundary_desk.proofs.Calling.{Long, lent_long, filing-long, withdrawal-long, boarding-near, boarding-long, event-near, event-long}
+use Rattle.boundary_desk.proofs.Filling.{table_long}
+use Rattle.boundary_desk.proofs.Taking.{leaves_so}
+use Rattle.boundary_desk.proofs.Calling.{Long, lent_long, filing_long, withdrawal_long, boarding_near, boarding_long, event_near, event_long}
 
 -- The rows of an accepted call: the records, the last numbers, and a row for one number beside them.
 pub record Fit (rows : List (List ℕ)) (lasts beside : List ℕ) : Type 0 where
@@ -51,7 +51,7 @@ module _ (rows : List (List ℕ)) (lasts given : List ℕ) (office file count fi
   file_is = rw (row_is, l-is, len_is, fit_is) at done-is
 
   pub file_fits : flag ≡ false → Fit rows lasts given
-  file_fits e = fit_by rows lasts given fit len fit_is len_is (filing-long len row _ done done-is (sym flag_is ∙ e))
+  file_fits e = fit_by rows lasts given fit len fit_is len_is (filing_long len row _ done done-is (sym flag_is ∙ e))
 
   so : (code : ℕ) (rows' : List (List ℕ)) (lasts' given' : List ℕ) → FileAnswered done rows lasts given code rows' lasts' given'
       → FileCalled rows lasts (filing_of lasts office file count files) given code rows' lasts' given'
@@ -82,7 +82,7 @@ module _ (rows : List (List ℕ)) (lasts : List ℕ) (office number : ℕ) (row 
   withdraw_is = rw (row_is, l-is, len_is) at done-is
 
   pub withdraw_fits : flag ≡ false → 32 ≤ length rows
-  withdraw_fits e = (lent_long 2 lasts (length rows) (rw len_is at (withdrawal-long len row _ done done-is (sym flag_is ∙ e)))).places
+  withdraw_fits e = (lent_long 2 lasts (length rows) (rw len_is at (withdrawal_long len row _ done done-is (sym flag_is ∙ e)))).places
 
   pub withdraw_refused : flag ≡ true → (code : ℕ) → code ≡ code_of done.withdrawn.verdict → WithdrawCalled rows lasts (withdrawal_of lasts office number) code rows
   withdraw_refused e code says =
@@ -108,13 +108,13 @@ module _ (rows : List (List ℕ)) (lasts sizes : List ℕ) (tape : Tape) (line o
   here = rw (row_is, l-is, len_is, fit_is, read_is) at answers
 
   pub event_placed : done.verdict.place ≤ 4096
-  event_placed = event-near len tape (record { row = row; lasts = l }) room out (event_of (line_of read)) done room' out' answers
+  event_placed = event_near len tape (record { row = row; lasts = l }) room out (event_of (line_of read)) done room' out' answers
 
   module _ (flag : Bool) (flag_is : flag ≡ is_refusal done.verdict.refusal) where
     pub event_fits : flag ≡ false → Fit rows lasts sizes
     event_fits e =
         fit_by rows lasts sizes fit len fit_is len_is
-        (event-long len tape (record { row = row; lasts = l }) room out (event_of (line_of read)) done room' out' answers (sym flag_is ∙ e))
+        (event_long len tape (record { row = row; lasts = l }) room out (event_of (line_of read)) done room' out' answers (sym flag_is ∙ e))
 
     pub event_refused : flag ≡ true → (code : ℕ) → code ≡ code_of done.verdict → EventCalled rows lasts tape line out room sizes code rows lasts out' room' sizes
     event_refused e code says =
@@ -158,9 +158,9 @@ module _ (rows : List (List ℕ)) (lasts : List ℕ) (tape : Tape) (head turn : 
   boards_here : Boards (board_places rows lasts taken sums) tape (table_at rows) (boarding_of lasts head turn) lent done after
   boards_here = rw (row_is, l-is, len_is, p₂-is, p₁-is) at boards
 
-  board_fits : is_refusal done.boarded.answer.refusal ≡ false → BoardFit rows taken sums
-  board_fits e =
-      let all = boarding-long len tape row (record { head = head; turn = turn; lasts = l }) lent done after boards e in
+  board_fits_here : is_refusal done.boarded.answer.refusal ≡ false → BoardFit rows taken sums
+  board_fits_here e =
+      let all = boarding_long len tape row (record { head = head; turn = turn; lasts = l }) lent done after boards e in
       let outer = lent_long 4 sums p₂ (rw len_is at all) in
       let inner = lent_long 10 taken p₁ (rw p₂-is at outer.places) in
       let last = lent_long 2 lasts (length rows) (rw p₁-is at inner.places) in
@@ -169,11 +169,11 @@ module _ (rows : List (List ℕ)) (lasts : List ℕ) (tape : Tape) (head turn : 
   pub can_settle : CanSettle rows taken sums row done
   can_settle =
       record {
-        near = boarding-near len tape row (record { head = head; turn = turn; lasts = l }) lent done after boards;
-        records = λ e. (board_fits e).records;
-        words = λ e. (board_fits e).words;
-        four = λ e. (board_fits e).four;
-        leaves = leaves-so len tape row (ap length row_is ∙ table-long rows) (record { head = head; turn = turn; lasts = l }) lent done after boards;
+        near = boarding_near len tape row (record { head = head; turn = turn; lasts = l }) lent done after boards;
+        records = λ e. (board_fits_here e).records;
+        words = λ e. (board_fits_here e).words;
+        four = λ e. (board_fits_here e).four;
+        leaves = leaves_so len tape row (ap length row_is ∙ table_long rows) (record { head = head; turn = turn; lasts = l }) lent done after boards;
       }
 
   pub board_called : (code : ℕ) (rows' : List (List ℕ)) (taken' sums' : List ℕ) → Settled row done rows taken sums code rows' taken' sums'

@@ -26,7 +26,7 @@ use Rattle.desk_tickets.specs.Filings.{in_range, is_full, is_spent, file_verdict
 use Rattle.desk_tickets.specs.Withdrawals.{is_waiting, withdraw_verdict, withdraw_row}
 use Rattle.desk_tickets.proofs.Storing.{file_accepted}
 use Rattle.desk_tickets.proofs.Leaving.{withdraw_accepted}
-use Rattle.desk_tickets.proofs.Kept.{filed_so_lem, not-filed-so, withdrawn_so_lem, not-withdrawn-so}
+use Rattle.desk_tickets.proofs.Kept.{filed_so_lem, not_filed_so, withdrawn_so_lem, not_withdrawn_so}
 use Rattle.planner.specs.Rows.{Rows}
 use Rattle.desk_boardings.specs.declared.Boarding.{Boarding}
 use Rattle.desk_boardings.specs.declared.BoardedRow.{BoardedRow}
@@ -35,7 +35,7 @@ use Rattle.answer_desk.specs.declared.Day.{Day}
 use Rattle.answer_desk.specs.declared.Event.{Event}
 use Rattle.answer_desk.specs.declared.Answered.{Answered}
 use Rattle.answer_desk.specs.Days.{Outcome, AnswersEvent, EventAnswered, filing_outcome, withdrawal_outcome, boarding_outcome, rows_lent}
-use Rattle.boundary.proofs.Plans.{plan-placed}
+use Rattle.boundary.proofs.Plans.{plan_placed}
 use Rattle.boundary_desk.specs.Records.{places_if}
 
 -- A row of records that counts for 32 places has them, and the row beside it is long enough.
@@ -67,13 +67,13 @@ module _ (len : ℕ) (row : List Ticket) (f : Filing) where
   pub filing_verdict : (file_row len row f).filed.verdict ≡ file_verdict len row f
   filing_verdict =
       ⊎_elim
-      (λ h. ap (λ (d : FiledRow). d.filed.verdict) (not-filed-so len row f h))
+      (λ h. ap (λ (d : FiledRow). d.filed.verdict) (not_filed_so len row f h))
       (λ h. ap (λ (d : FiledRow). d.filed.verdict) (filed_so_lem len row f h))
       (true_or_false (refuses (file_verdict len row f)))
 
-  verdict_near : (file_verdict len row f).place ≤ place_most
+  verdict_near_here : (file_verdict len row f).place ≤ place_most
   unfolding file_verdict
-  verdict_near =
+  verdict_near_here =
       first_near
       (records_verdict len row f.lasts
       ∷ refuse_if (not (in_range f)) BadTicket
@@ -84,7 +84,7 @@ module _ (len : ℕ) (row : List Ticket) (f : Filing) where
 
   module _ (done : FiledRow) (is : done ≡ file_row len row f) where
     pub filing_near : done.filed.verdict.place ≤ place_most
-    filing_near = rw (is, filing_verdict) verdict_near
+    filing_near = rw (is, filing_verdict) verdict_near_here
 
     pub filing_long : is_refusal done.filed.verdict.refusal ≡ false → 32 ≤ len
     filing_long e = records_long_enough len row f.lasts (file_accepted len row f (rw (is, filing_verdict) at e)).table
@@ -93,7 +93,7 @@ module _ (len : ℕ) (row : List Ticket) (w : Withdrawal) where
   pub withdrawal_verdict : (withdraw_row len row w).withdrawn.verdict ≡ withdraw_verdict len row w
   withdrawal_verdict =
       ⊎_elim
-      (λ h. ap (λ (d : WithdrawnRow). d.withdrawn.verdict) (not-withdrawn-so len row w h))
+      (λ h. ap (λ (d : WithdrawnRow). d.withdrawn.verdict) (not_withdrawn_so len row w h))
       (λ h. ap (λ (d : WithdrawnRow). d.withdrawn.verdict) (withdrawn_so_lem len row w h))
       (true_or_false (refuses (withdraw_verdict len row w)))
 
@@ -116,7 +116,7 @@ module _ (len : ℕ) (tape : Tape) (row : List Ticket) (b : Boarding) (before : 
   boarding_near =
       ⊎_elim
       (λ h. rw (boards.refused h).says (records_near len row b.lasts))
-      (λ h. plan-placed (board_run tape row b) 1 before (0 ∷ 0 ∷ 0 ∷ 0 ∷ []) refl (omega arith) r.boarded.answer after (boards.planned h).plans)
+      (λ h. plan_placed (board_run tape row b) 1 before (0 ∷ 0 ∷ 0 ∷ 0 ∷ []) refl (omega arith) r.boarded.answer after (boards.planned h).plans)
       (true_or_false (refuses (records_verdict len row b.lasts)))
 
   pub boarding_sound : is_refusal r.boarded.answer.refusal ≡ false → refuses (records_verdict len row b.lasts) ≡ false

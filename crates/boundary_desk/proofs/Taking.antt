@@ -19,10 +19,10 @@ use Rattle.desk_boardings.specs.Boarders.{boarders, share_one, share_two}
 use Rattle.desk_boardings.specs.Boardings.{Tape, Boards, taken_of}
 use Rattle.desk_boardings.proofs.Who.{shares_fit}
 use Rattle.answer_desk.specs.Answers.{place_in}
-use Rattle.answer_desk.proofs.Leaving.{who-leaves}
+use Rattle.answer_desk.proofs.Leaving.{who_leaves}
 use Rattle.boundary_desk.specs.Calls.{want_place, taken_with}
 use Rattle.boundary_desk.specs.Private.{places_of, Leaves}
-use Rattle.boundary_desk.proofs.Calling.{boarding-sound}
+use Rattle.boundary_desk.proofs.Calling.{boarding_sound}
 
 -- A row whose entries from `at` on are being written, i of n so far.
 pub record Placing (before : List ℕ) (at : ℕ) (s : List ℕ) (n : ℕ) (row : List ℕ) (i : ℕ) : Type 0 where
@@ -52,11 +52,11 @@ module _ (before : List ℕ) (at : ℕ) (s : List ℕ) (n : ℕ) where
 
 -- The tickets of n places, and the place of each one's want.
 module _ (numbers : List ℕ) (row : List Ticket) (all : length row ≡ 32) (first n : ℕ) (fits : first + n ≤ 32) where
-  tickets_long : length (take n (drop first row)) ≡ n
-  tickets_long = length-take-le n (drop first row) (rw (length-drop first row, all) (omega arith))
+  tickets_long_here : length (take n (drop first row)) ≡ n
+  tickets_long_here = length-take-le n (drop first row) (rw (length-drop first row, all) (omega arith))
 
   pub places_long : length (places_of numbers (take n (drop first row))) ≡ n
-  places_long = length-map (take n (drop first row)) (λ (t : Ticket). suc (place_in t.file numbers)) ∙ tickets_long
+  places_long = length-map (take n (drop first row)) (λ (t : Ticket). suc (place_in t.file numbers)) ∙ tickets_long_here
 
   pub place_there : (i : ℕ) → i < n → suc (place_in (get_or row (first + i) no_ticket).file numbers) ≡ get_or (places_of numbers (take n (drop first row))) i (suc (place_in 0 numbers))
   place_there i l =
@@ -128,10 +128,10 @@ module _ (len : ℕ) (tape : Tape) (row : List Ticket) (all : length row ≡ 32)
   pub leaves_so : is_refusal r.boarded.answer.refusal ≡ false → Leaves row r.boarded
   leaves_so e =
       let taken_is : r.boarded.taken ≡ taken_of row
-      = ap (λ (x : BoardedRow). x.boarded.taken) (boards.planned (boarding-sound len tape row b before r after boards e)).says ∙ rw e refl in
+      = ap (λ (x : BoardedRow). x.boarded.taken) (boards.planned (boarding_sound len tape row b before r after boards e)).says ∙ rw e refl in
       let one-is : r.boarded.taken.one ≡ share_one row = ap (λ x. x.one) taken_is in
       let two_is : r.boarded.taken.two ≡ share_two row = ap (λ x. x.two) taken_is in
       record {
         few = rw (one-is, two_is) (shares_fit (length (waiting 1 row)) (length (waiting 2 row)));
-        who = (who-leaves len tape row all b before r after boards e).who;
+        who = (who_leaves len tape row all b before r after boards e).who;
       }

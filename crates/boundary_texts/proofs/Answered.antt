@@ -25,7 +25,7 @@ use Rattle.answer_check.specs.RunRules.{head_anywhere}
 use Rattle.answer_check.specs.Checking.{check_checks, VerdictOf, verdict_on, CheckAnswered}
 use Rattle.boundary.specs.Boundary.{code_of}
 use Rattle.boundary.proofs.AnyPlaces.{judge_any_near}
-use Rattle.promises.proofs.Lengths.{verdict-near}
+use Rattle.promises.proofs.Lengths.{verdict_near}
 use Rattle.promises.proofs.InputLengths.{check_checks_near}
 use Rattle.boundary_texts.specs.Texts.{text_verdict, TextCalled, SheetCalled, AnswerCalled, BuysCalled, CheckCalled}
 use Rattle.boundary_texts.specs.Private.{written_verdict, Told}
@@ -46,8 +46,8 @@ module _ (v : Verdict) (code : ℕ) (code_is : code ≡ code_of v) (flag : Bool)
     pub told_refused : flag ≡ true → Told v bytes sizes code sizes
     told_refused e = let here : is_refusal v.refusal ≡ true = sym flag_is ∙ e in record { says = code_is; sizes_are = rw here refl }
 
-    pub told_one_here : flag ≡ false → 1 ≤ length sizes → Told v bytes sizes code (set sizes 0 bytes)
-    told_one_here e one = let here : is_refusal v.refusal ≡ false = sym flag_is ∙ e in record { says = code_is; sizes_are = rw here (one_set bytes sizes one) }
+    pub told_one : flag ≡ false → 1 ≤ length sizes → Told v bytes sizes code (set sizes 0 bytes)
+    told_one e one = let here : is_refusal v.refusal ≡ false = sym flag_is ∙ e in record { says = code_is; sizes_are = rw here (one_set bytes sizes one) }
 
 pub or_false : (b : Bool) → (b || false) ≡ b
 or_false true = refl
@@ -88,9 +88,9 @@ module _ (text row : List ℕ) (w : Written) (row' : List ℕ) (p : Handed (row_
       (λ (e : ltb (length row) (length text) ≡ false). ap written_verdict p.answer ∙ rw e refl)
       (true_or_false (ltb (length row) (length text)))
 
-  handed_bytes : is_refusal (row_verdict text row).refusal ≡ false → w.bytes ≡ length text
+  handed_bytes_here : is_refusal (row_verdict text row).refusal ≡ false → w.bytes ≡ length text
   unfolding written_answer
-  handed_bytes h = ap (λ (x : Written). x.bytes) p.answer ∙ rw h refl
+  handed_bytes_here h = ap (λ (x : Written). x.bytes) p.answer ∙ rw h refl
 
 -- What is answered by value, under the verdict on the sheets.
 pub record Answers (v : Verdict) (Asked : List ℕ → Type 0) (row : List ℕ) (w : Written) (row' : List ℕ) : Type 0 where
@@ -98,8 +98,8 @@ pub record Answers (v : Verdict) (Asked : List ℕ → Type 0) (row : List ℕ) 
   pub handed : is_refusal v.refusal ≡ false → TextHanded Asked row w row'
 
 module _ {v : Verdict} {Asked : List ℕ → Type 0} {row : List ℕ} {w : Written} {row' : List ℕ} (p : Answers v Asked row w row') where
-  pub place_near_here : v.place ≤ place_most → w.place ≤ place_most
-  place_near_here near =
+  pub place_near : v.place ≤ place_most → w.place ≤ place_most
+  place_near near =
       ⊎_elim
       (λ (h : is_refusal v.refusal ≡ true). rw (p.refused h).says near)
       (λ (h : is_refusal v.refusal ≡ false).
@@ -123,7 +123,7 @@ module _ {v : Verdict} {Asked : List ℕ → Type 0} {row : List ℕ} {w : Writt
               ⊎_elim
               (λ (h : is_refusal (text_verdict t.text row sizes).refusal ≡ true). let kept : sizes' ≡ sizes = rw (here ∙ h) at told.sizes_are in rw h kept)
               (λ (h : is_refusal (text_verdict t.text row sizes).refusal ≡ false).
-              let many = handed_bytes t.text row w row' t.handed (ap (λ (x : Verdict). is_refusal x.refusal) same ∙ h) in
+              let many = handed_bytes_here t.text row w row' t.handed (ap (λ (x : Verdict). is_refusal x.refusal) same ∙ h) in
               let filled : sizes' ≡ w.bytes ∷ drop 1 sizes = rw (here ∙ h) at told.sizes_are in
               rw h (filled ∙ ap (λ (n : ℕ). n ∷ drop 1 sizes) many))
               (true_or_false (is_refusal (text_verdict t.text row sizes).refusal));
@@ -161,14 +161,14 @@ module _ {v : Verdict} {Asked : List ℕ → Type 0} {w : Written} {none' : List
 -- A run sheet to its plan sheet.
 any_near : (words : ℕ) (sheet : List ℕ) → (any_verdict words sheet).place ≤ place_most
 any_near words sheet =
-    verdict-near sheet (any_checks words) (judge_any_near (sheet_run sheet), λ e. (if_near (ltb words (room_for (sheet_run sheet))) ShortRoom, λ d. tt))
+    verdict_near sheet (any_checks words) (judge_any_near (sheet_run sheet), λ e. (if_near (ltb words (room_for (sheet_run sheet))) ShortRoom, λ d. tt))
 
 module _ {sheet out room : List ℕ} {w : Written} {out' room' : List ℕ} (p : SheetAnswered sheet out room w out' room') where
   answers : Answers (any_verdict (length room) sheet) (PlanAnyOf (sheet_name sheet) (sheet_run sheet)) out w out'
   answers = record { refused = p.refused; handed = p.planned }
 
   pub answer_near : (u : Verdict) → u ≡ written_verdict w → u.place ≤ place_most
-  answer_near u is = rw is (place_near_here answers (any_near (length room) sheet))
+  answer_near u is = rw is (place_near answers (any_near (length room) sheet))
 
   pub answer_called : (sizes : List ℕ) → 1 ≤ length sizes → (u : Verdict) → u ≡ written_verdict w → (code : ℕ) (sizes' : List ℕ) → Told u w.bytes sizes code sizes' → AnswerCalled sheet out room sizes code out' room' sizes'
   answer_called sizes one u is code sizes' told = record { called = called answers sizes one code sizes' (rw is at told); cleared = p.cleared }
@@ -183,7 +183,7 @@ module _ {sheet out room : List ℕ} {w : Written} {out' room' : List ℕ} (p : 
   figures = record { refused = p.refused; handed = p.figured }
 
   pub figured_near : (u : Verdict) → u ≡ written_verdict w → u.place ≤ place_most
-  figured_near u is = rw is (place_near_here figures (any_near (length room) sheet))
+  figured_near u is = rw is (place_near figures (any_near (length room) sheet))
 
   pub buys_called : (sizes : List ℕ) → 1 ≤ length sizes → (u : Verdict) → u ≡ written_verdict w → (code : ℕ) (sizes' : List ℕ) → Told u w.bytes sizes code sizes' → BuysCalled sheet out room sizes code out' room' sizes'
   buys_called sizes one u is code sizes' told = record { called = called figures sizes one code sizes' (rw is at told); cleared = p.cleared }
@@ -194,14 +194,14 @@ module _ {sheet room : List ℕ} {w : Written} {none' room' : List ℕ} (p : She
 
 -- A run sheet and a plan sheet to the verdict.
 check_near : (words : ℕ) (sheet plan : List ℕ) → (verdict_on words sheet plan).place ≤ place_most
-check_near words sheet plan = verdict-near sheet (check_checks head_anywhere words plan) (check_checks_near words plan (sheet_run sheet))
+check_near words sheet plan = verdict_near sheet (check_checks head_anywhere words plan) (check_checks_near words plan (sheet_run sheet))
 
 module _ {sheet plan out room : List ℕ} {w : Written} {out' room' : List ℕ} (p : CheckAnswered sheet plan out room w out' room') where
   checks : Answers (verdict_on (length room) sheet plan) (VerdictOf head_anywhere (sheet_name sheet) (sheet_run sheet) plan (plan_froms plan) (plan_tos plan)) out w out'
   checks = record { refused = p.refused; handed = p.checked }
 
   pub checked_near : (u : Verdict) → u ≡ written_verdict w → u.place ≤ place_most
-  checked_near u is = rw is (place_near_here checks (check_near (length room) sheet plan))
+  checked_near u is = rw is (place_near checks (check_near (length room) sheet plan))
 
   pub check_called : (sizes : List ℕ) → 1 ≤ length sizes → (u : Verdict) → u ≡ written_verdict w → (code : ℕ) (sizes' : List ℕ) → Told u w.bytes sizes code sizes' → CheckCalled sheet plan out room sizes code out' room' sizes'
   check_called sizes one u is code sizes' told = record { called = called checks sizes one code sizes' (rw is at told); cleared = p.cleared }

@@ -24,12 +24,12 @@ use Rattle.walk.specs.Rows.{ReadRows}
 use Rattle.refusals.proofs.Verdicts.{refuses}
 use Rattle.runs.proofs.Search.{true_or_false}
 use Rattle.runs.proofs.Sound.{Sound}
-use Rattle.runs.proofs.Members.{first_below, last-above, member-first, same-last, same-or-apart}
-use Rattle.runs.proofs.Entries.{wanted-named}
-use Rattle.runs.proofs.Joined.{Places, weighed, weighed-joined}
+use Rattle.runs.proofs.Members.{first_below, last_above, member_first, same_last, same_or_apart}
+use Rattle.runs.proofs.Entries.{wanted_named}
+use Rattle.runs.proofs.Joined.{Places, weighed, weighed_joined}
 use Rattle.runs.proofs.Judged.{GoodRun, accepted_run}
 use Rattle.runs.proofs.AnyHead.{GoodAnyRun, accepted_any}
-use Rattle.runs.proofs.Stops.{extent, extents-apart, wants-agree, wants-length, want_at, name-first, start-of-name, end-of-name, run_sound}
+use Rattle.runs.proofs.Stops.{extent, extents_apart, wants_agree, wants_length, want_at_lem, name_first, start_of_name, end_of_name, run_sound}
 use Rattle.walk.proofs.Joins.{time_same, leg_same, start_by, end_by}
 use Rattle.least.proofs.Rising.{rises_by_steps}
 use Rattle.least.proofs.Walks.{by_file}
@@ -38,14 +38,14 @@ use Rattle.demands.specs.RefusalTable.{IsFile, Together, NamesStop}
 use Rattle.demands.specs.Demand2.{list_in, IsWalkOf}
 use Rattle.demands.specs.AnyHead.{IsWalkAnyOf}
 use Rattle.demands.specs.Aggregates.{Reaches, ReadsFrom, behind, counted, passed, IsStopAt, StopsByMembers, AggregatesReach, MembersShare, PriceMembersShare, PlanMembersShare, PriceAnyMembersShare, PlanAnyMembersShare}
-use Rattle.demands.proofs.Conditions.{together-first, first-together, last_with, within-extent, named}
-use Rattle.demands.proofs.AnyLifted.{members-down}
-use Rattle.demands.proofs.AnyJudged.{nothing-judged-any}
+use Rattle.demands.proofs.Conditions.{together_first, first_together, last_with, within_extent, named}
+use Rattle.demands.proofs.AnyLifted.{members_down}
+use Rattle.demands.proofs.AnyJudged.{nothing_judged_any}
 use Rattle.demands.proofs.AnyHead.{good_run, price_any_good, demand2_price_any, demand2_walk_any}
-use Rattle.demands.proofs.Counted.{wants_at_lem, wants-end, has-stops}
-use Rattle.demands.proofs.Listed.{test-names}
+use Rattle.demands.proofs.Counted.{wants_at_lem, wants_end, has_stops}
+use Rattle.demands.proofs.Listed.{test_names}
 use Rattle.demands.proofs.Formed.{stop_wanted}
-use Rattle.demands.proofs.Planned.{run-accepted}
+use Rattle.demands.proofs.Planned.{run_accepted}
 use Rattle.demands.proofs.Demand2.{demand2_price, demand2_walk, price_run_accepted}
 use Rattle.demands.proofs.Ends.{in_row}
 use Rattle.demands.proofs.Legs.{leg_in_row}
@@ -105,49 +105,49 @@ module _ (r : Run) (good : GoodRun r) where
   reaches f a =
       let up : suc (first_member r.aggregates (f - 1)) - 1 ≡ first_member r.aggregates (f - 1) = omega arith in
       let low = first_below r.aggregates (f - 1) in
-      let member = member-first r.aggregates (f - 1) (first_member r.aggregates (f - 1)) (omega arith) (omega (arith, low, last-above r.aggregates (f - 1))) in
+      let member = member_first r.aggregates (f - 1) (first_member r.aggregates (f - 1)) (omega arith) (omega (arith, low, last_above r.aggregates (f - 1))) in
       let last = last_with r good.files f a in
       record {
         first = suc (first_member r.aggregates (f - 1));
         first_file = record { least = omega arith; most = omega (arith, low, a.least, a.most) };
-        first_with = first-together r good.files (suc (first_member r.aggregates (f - 1))) f (omega arith) a.least (ap (first_member r.aggregates) up ∙ member);
+        first_with = first_together r good.files (suc (first_member r.aggregates (f - 1))) f (omega arith) a.least (ap (first_member r.aggregates) up ∙ member);
         starts = rw up refl;
         no_sooner = λ g b t.
-            let same = together-first r good.files g f b a t in
+            let same = together_first r good.files g f b a t in
             let left = (extent r.starts r.lengths r.aggregates good.files.table good.files.rows g (in_table g b)).starts-left in
             omega (arith, left, ap (λ i. get_or r.starts i 0) same);
         last = last.which;
         last_file = last.file;
         last_with = last.together;
         ends = sym last.ends;
-        no_later = λ g b t. within-extent r good.files g f b a t;
+        no_later = λ g b t. within_extent r good.files g f b a t;
       }
 
   -- Files whose aggregates start at one place lie together.
   same_start : (f g : ℕ) → IsFile r f → IsFile r g → f ≤ g → startWith f ≡ startWith g → Together r f g
   same_start f g a b l e =
-      first-together r good.files f g a.least b.least
+      first_together r good.files f g a.least b.least
       (⊎_elim
       (λ same. same)
       (λ apart.
       absurd (omega (
         arith,
         e,
-        extents-apart r.starts r.lengths r.aggregates good.files.table good.files.rows f g (in_table g b) apart,
+        extents_apart r.starts r.lengths r.aggregates good.files.table good.files.rows f g (in_table g b) apart,
         (extent r.starts r.lengths r.aggregates good.files.table good.files.rows f (in_table f a)).extends,
       )))
-      (same-or-apart r.aggregates (f - 1) (g - 1) (omega arith)))
+      (same_or_apart r.aggregates (f - 1) (g - 1) (omega arith)))
 
   start_together : (f g : ℕ) → IsFile r f → IsFile r g → startWith f ≡ startWith g → Together r f g
   start_together f g a b e =
       by_cases (dec_lt g f)
-      (λ l. first-together r good.files f g a.least b.least (sym (together-first r good.files g f b a (same_start g f b a (omega arith) (sym e)))))
+      (λ l. first_together r good.files f g a.least b.least (sym (together_first r good.files g f b a (same_start g f b a (omega arith) (sym e)))))
       (λ n. same_start f g a b (omega arith) e)
 
   -- The wants from an index on that lie together with a file: the weight tells them.
   reads_from : (g : ℕ) → IsFile r g → (m i : ℕ) → i + m ≡ length r.numbers → ReadsFrom r g i (weighed (starts_at (startWith g)) (drop i (want_stops_of r)))
   unfolding weighed
-  reads_from g a zero i e = let same : length r.numbers ≡ i = omega arith in rw (← same, wants-end r good) behind
+  reads_from g a zero i e = let same : length r.numbers ≡ i = omega arith in rw (← same, wants_end r good) behind
   reads_from g a (suc m) i e =
       let l : i < length r.numbers = omega arith in
       let n = get_or r.numbers i 0 in
@@ -163,14 +163,14 @@ module _ (r : Run) (good : GoodRun r) where
       subst (λ k. ReadsFrom r g i k) more (counted (start_together n g at a (eqb-true _ _ t)) rest))
       (λ f.
       let as_many : others ≡ all = rw f (omega arith) in
-      subst (λ k. ReadsFrom r g i k) as_many (passed (λ t. eqb-false _ _ f (ap (λ k. get_or r.starts k 0) (together-first r good.files n g at a t))) rest))
+      subst (λ k. ReadsFrom r g i k) as_many (passed (λ t. eqb-false _ _ f (ap (λ k. get_or r.starts k 0) (together_first r good.files n g at a t))) rest))
       (true_or_false (eqb (startWith n) (startWith g))))
 
   same : length r.counts ≡ length r.numbers
   same = sym good.wants.equal
 
   wants_weigh : (x : ℕ) → weighed (starts_at x) (stops_of r) ≡ weighed (starts_at x) (want_stops_of r)
-  wants_weigh x = weighed-joined (starts_at x) (starts_same x) (want_stops_of r) (wants-agree r.starts r.lengths r.aggregates r.numbers r.counts)
+  wants_weigh x = weighed_joined (starts_at x) (starts_same x) (want_stops_of r) (wants_agree r.starts r.lengths r.aggregates r.numbers r.counts)
 
   -- The stop at an index, by its name.
   module _ (j : ℕ) (l : j < length (stops_of r)) where
@@ -181,20 +181,20 @@ module _ (r : Run) (good : GoodRun r) where
     asked = stop_wanted (stops_of r) s.file (j, l, refl)
 
     has_name : NamesStop r s.file
-    has_name = test-names r good s.file (sym (wanted-named r.starts r.lengths r.aggregates r.numbers r.counts same s.file) ∙ asked)
+    has_name = test_names r good s.file (sym (wanted_named r.starts r.lengths r.aggregates r.numbers r.counts same s.file) ∙ asked)
 
     its_start : s.start ≡ startWith s.file
     its_start =
         sym (by_file (stops_of r) (run_sound r good).ascends j l).start
         ∙ start_by (stops_of r) s.file
-        ∙ start-of-name r.starts r.lengths r.aggregates r.numbers r.counts s.file asked
-        ∙ ap (λ i. get_or r.starts i 0) (sym (name-first r.starts r.lengths r.aggregates r.numbers r.counts s.file asked))
+        ∙ start_of_name r.starts r.lengths r.aggregates r.numbers r.counts s.file asked
+        ∙ ap (λ i. get_or r.starts i 0) (sym (name_first r.starts r.lengths r.aggregates r.numbers r.counts s.file asked))
 
     its_end : s.end ≡ endWith s.file
     its_end =
         sym (by_file (stops_of r) (run_sound r good).ascends j l).end
         ∙ end_by (stops_of r) s.file
-        ∙ end-of-name r.starts r.lengths r.aggregates r.numbers r.counts s.file asked
+        ∙ end_of_name r.starts r.lengths r.aggregates r.numbers r.counts s.file asked
 
     its_count : weighed (starts_at (startWith s.file)) (want_stops_of r) ≡ s.count
     its_count = sym (wants_weigh (startWith s.file)) ∙ ap (λ x. weighed (starts_at x) (stops_of r)) (sym its_start) ∙ one_start (stops_of r) r.head (run_sound r good) j l
@@ -209,15 +209,15 @@ module _ (r : Run) (good : GoodRun r) where
 
   want_is : (i : ℕ) → i < length r.numbers → Reaches r (get_or r.numbers i 0) (stop_at (want_stops_of r) i).start (stop_at (want_stops_of r) i).end
   want_is i l =
-      rw (want_at r.starts r.lengths r.aggregates r.numbers r.counts same i l) (reaches (get_or r.numbers i 0) (named r good.files good.wants i l))
+      rw (want_at_lem r.starts r.lengths r.aggregates r.numbers r.counts same i l) (reaches (get_or r.numbers i 0) (named r good.files good.wants i l))
 
   by_members : StopsByMembers r
   by_members =
       record {
-        wants = wants-length r.starts r.lengths r.aggregates r.numbers r.counts same;
+        wants = wants_length r.starts r.lengths r.aggregates r.numbers r.counts same;
         reach = want_is;
-        count = λ i l. ap (λ (s : Stop). s.count) (want_at r.starts r.lengths r.aggregates r.numbers r.counts same i l);
-        many = has-stops r good;
+        count = λ i l. ap (λ (s : Stop). s.count) (want_at_lem r.starts r.lengths r.aggregates r.numbers r.counts same i l);
+        many = has_stops r good;
         rising = (run_sound r good).ascends;
         each = is_stop;
       }
@@ -226,18 +226,18 @@ module _ (r : Run) (good : GoodRun r) where
   share_places : (i j : ℕ) → i < length r.numbers → j < length r.numbers → Together r (get_or r.numbers i 0) (get_or r.numbers j 0)
       → Places (stop_at (want_stops_of r) i) (stop_at (want_stops_of r) j)
   share_places i j a b t =
-      let first = together-first r good.files (get_or r.numbers i 0) (get_or r.numbers j 0) (named r good.files good.wants i a) (named r good.files good.wants j b) t in
+      let first = together_first r good.files (get_or r.numbers i 0) (get_or r.numbers j 0) (named r good.files good.wants i a) (named r good.files good.wants j b) t in
       rw (
-        want_at r.starts r.lengths r.aggregates r.numbers r.counts same i a,
-        want_at r.starts r.lengths r.aggregates r.numbers r.counts same j b,
+        want_at_lem r.starts r.lengths r.aggregates r.numbers r.counts same i a,
+        want_at_lem r.starts r.lengths r.aggregates r.numbers r.counts same j b,
       )
       (record {
         start = ap (λ k. get_or r.starts k 0) first;
-        end = ap (λ k. end_at r.starts r.lengths k) (same-last r.aggregates (get_or r.numbers i 0 - 1) (get_or r.numbers j 0 - 1) first);
+        end = ap (λ k. end_at r.starts r.lengths k) (same_last r.aggregates (get_or r.numbers i 0 - 1) (get_or r.numbers j 0 - 1) first);
       })
 
 pub aggregates_reach : AggregatesReach
-aggregates_reach r nothing = members-down r (by_members (lifted r) (accepted_any r (nothing-judged-any r nothing)).run)
+aggregates_reach r nothing = members_down r (by_members (lifted r) (accepted_any r (nothing_judged_any r nothing)).run)
 
 members_share : (r : Run) → GoodRun r → (m : ℕ) (gs : List Leg) (rows : ReadRows) → take (length r.numbers) rows.times ≡ times_of r.turn (head_at m) gs (want_stops_of r)
     → take (length r.numbers) rows.legs ≡ legs_for gs (want_stops_of r) → MembersShare r rows
@@ -262,7 +262,7 @@ price_members_share r froms tos rows answer out says fills accepts =
 
 pub plan_members_share : PlanMembersShare
 plan_members_share r before answer after plans accepts =
-    walk_shares r (run-accepted r before answer after plans accepts) (list_in answer after) (reads_in after) answer (demand2_walk r before answer after plans accepts)
+    walk_shares r (run_accepted r before answer after plans accepts) (list_in answer after) (reads_in after) answer (demand2_walk r before answer after plans accepts)
 
 -- For a head anywhere.
 walk_any_shares : (r : Run) → GoodAnyRun r → (list : List Detour) (rows : ReadRows) (answer : Answer) → IsWalkAnyOf r list rows answer → MembersShare r rows

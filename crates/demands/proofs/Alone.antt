@@ -4,9 +4,9 @@ use mathlib.Core.List.{List}
 use lib.ListN.{length}
 use Rattle.runs.specs.Alone.{alone_of}
 use Rattle.runs.proofs.Judged.{accepted_run}
-use Rattle.runs.proofs.Alone.{alone-wants, alone_stops, alone_judged}
+use Rattle.runs.proofs.Alone.{alone_wants, alone_stops, alone_judged}
 use Rattle.demands.specs.Alone.{AloneAsBefore}
-use Rattle.demands.proofs.Judged.{nothing-judged}
+use Rattle.demands.proofs.Judged.{nothing_judged}
 
 pub alone_as_before : AloneAsBefore
 alone_as_before starts lengths numbers counts head turn =
@@ -15,6 +15,6 @@ alone_as_before starts lengths numbers counts head turn =
       verdict = judged;
       stops = λ n.
           let alone = alone_of starts lengths numbers counts head turn in
-          let good = accepted_run alone (nothing-judged alone n) in
-          (alone_stops starts lengths numbers counts head turn (length starts) good.wants, alone-wants (length starts) starts lengths numbers counts);
+          let good = accepted_run alone (nothing_judged alone n) in
+          (alone_stops starts lengths numbers counts head turn (length starts) good.wants, alone_wants (length starts) starts lengths numbers counts);
     }

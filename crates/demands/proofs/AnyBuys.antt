@@ -24,13 +24,13 @@ use Rattle.walk.specs.declared.Answer.{Answer}
 use Rattle.walk.specs.declared.Leg.{Leg}
 use Rattle.walk.specs.Walk.{head_at, walked, sum_of}
 use Rattle.walk.specs.AnyHead.{run_legs, priced_any_answer}
-use Rattle.walk.proofs.AnyHead.{any-even, any_formed}
+use Rattle.walk.proofs.AnyHead.{any_even, any_formed}
 use Rattle.least.specs.AnyHead.{LeastAnyFor, list_sum_any}
 use Rattle.figures.specs.Figures.{without}
 use Rattle.figures.specs.AnyHead.{figure_any_of, figures_any_of, figures_any_verdict, figures_any_answer, figures_any_row}
 use Rattle.figures.specs.Private.{PriceableAny}
 use Rattle.figures.proofs.Without.{without_formed_any}
-use Rattle.figures.proofs.AnyHead.{list-any-accepted, list-any-formed, figures_length, figure_at, figured-so}
+use Rattle.figures.proofs.AnyHead.{list_any_accepted, list_any_formed, figures_length, figure_at, figured_so}
 use Rattle.engine_stops.proofs.Halves.{list_of_halves}
 use Rattle.demands.specs.Demand1.{ByTheTable, price_order}
 use Rattle.demands.specs.AnyLegs.{AreLegsOf}
@@ -38,19 +38,19 @@ use Rattle.demands.specs.AnyHead.{RunAppliesAny, ListIsBadAny}
 use Rattle.demands.specs.Buys.{PlanPays}
 use Rattle.demands.specs.AnyBuys.{BuysAnyApplies, FiguresAnyByTable, FiguresAnyIff, IsBoughtAny, FiguresAnyTold, FiguresAnyTell, PlansAnyPay}
 use Rattle.demands.proofs.Tests.{tells_below}
-use Rattle.demands.proofs.Checks.{refused-iff, decides_if, decides_reworded, Finds, finds-none, finds-first}
+use Rattle.demands.proofs.Checks.{refused_iff, decides_if, decides_reworded, Finds, finds_none, finds_first}
 use Rattle.demands.proofs.Demand1.{refusal_only_place}
-use Rattle.demands.proofs.AnyJudged.{any_small, run-any-finds, decides-list-any}
+use Rattle.demands.proofs.AnyJudged.{any_small, run_any_finds, decides_list_any}
 use Rattle.demands.proofs.AnyLegs.{legs_one}
-use Rattle.demands.proofs.AnyHead.{is-formed-any, planned, run-passed, not-refused, any-starts-in-rows, any-ends-in-rows}
+use Rattle.demands.proofs.AnyHead.{is_formed_any, planned, run_passed, not_refused, any_starts_in_rows, any_ends_in_rows}
 use Rattle.demands.proofs.Buys.{is_less, less_above, without_is, ends_apart, less_without}
 
 -- The refusals.
 module _ (r : Run) (froms tos : List ℕ) (row : List ℤ) where
-  of_run : (k : Refusal) (p : ℕ) → number_of k ≤ 7 → BuysAnyApplies r froms tos row k p → RunAppliesAny r k p
-  of_run k p l (BuysAnyApplies.run h) = h
-  of_run k p l (BuysAnyApplies.bad_list h) = absurd (omega arith)
-  of_run k p l (BuysAnyApplies.Short-row h) = absurd (omega arith)
+  of_run_here : (k : Refusal) (p : ℕ) → number_of k ≤ 7 → BuysAnyApplies r froms tos row k p → RunAppliesAny r k p
+  of_run_here k p l (BuysAnyApplies.run h) = h
+  of_run_here k p l (BuysAnyApplies.bad_list h) = absurd (omega arith)
+  of_run_here k p l (BuysAnyApplies.Short-row h) = absurd (omega arith)
 
   of_list : (p : ℕ) → BuysAnyApplies r froms tos row BadEntry p → ListIsBadAny r froms tos p
   of_list p (BuysAnyApplies.run h) = absurd (omega (arith, any_small r h))
@@ -62,19 +62,19 @@ module _ (r : Run) (froms tos : List ℕ) (row : List ℤ) where
 
   -- A list that is accepted has as many entries as starts.
   entries : refuses (list_verdict_any r.head (stops_of r) froms tos) ≡ false → length (list_of froms tos) ≡ length froms
-  entries e = length_list froms tos (any-even r.head (stops_of r) froms tos e)
+  entries e = length_list froms tos (any_even r.head (stops_of r) froms tos e)
 
   buys_finds : Finds (BuysAnyApplies r froms tos row) price_order (figures_any_verdict r froms tos row)
   unfolding figures_any_verdict
   buys_finds =
       let short = refuse_if (ltb (length row) (length (list_of froms tos))) ShortRow in
-      run-any-finds r (BuysAnyApplies r froms tos row) (λ k p. BuysAnyApplies.run) of_run (BadEntry ∷ ShortRow ∷ []) (list_verdict_any r.head (stops_of r) froms tos ∷ short ∷ [])
-      (λ a. finds-first (BuysAnyApplies r froms tos row) (short ∷ []) refl
-      (decides_reworded (λ p. BuysAnyApplies.bad_list) of_list (decides-list-any r (accepted_any r a) froms tos))
-      (λ b. finds-first (BuysAnyApplies r froms tos row) {v = short} [] refl
+      run_any_finds r (BuysAnyApplies r froms tos row) (λ k p. BuysAnyApplies.run) of_run_here (BadEntry ∷ ShortRow ∷ []) (list_verdict_any r.head (stops_of r) froms tos ∷ short ∷ [])
+      (λ a. finds_first (BuysAnyApplies r froms tos row) (short ∷ []) refl
+      (decides_reworded (λ p. BuysAnyApplies.bad_list) of_list (decides_list_any r (accepted_any r a) froms tos))
+      (λ b. finds_first (BuysAnyApplies r froms tos row) {v = short} [] refl
       (decides_reworded (λ p h. rw h.0 (BuysAnyApplies.Short-row h.1)) of_row
       (rw (entries b) (decides_if (ltb (length row) (length froms)) ShortRow (tells_below (length row) (length froms)))))
-      (λ c. finds-none (BuysAnyApplies r froms tos row))))
+      (λ c. finds_none (BuysAnyApplies r froms tos row))))
 
   buys_says : (b : Bool) → refuses (figures_any_verdict r froms tos row) ≡ b
       → ByTheTable (BuysAnyApplies r froms tos row) price_order row (figures_any_answer r froms tos row) (figures_any_row r froms tos row)
@@ -92,7 +92,7 @@ figures_any_by_table r froms tos row answer out says fills = rw (says, fills) (b
 
 pub figures_any_iff : FiguresAnyIff
 figures_any_iff r froms tos row answer says =
-    refused-iff (BuysAnyApplies r froms tos row) (figures_any_by_table r froms tos row answer (figures_any_row r froms tos row) says refl).first (refl, (refl, (refl, (refl, (refl, (refl, (refl, (refl, (refl, tt)))))))))
+    refused_iff (BuysAnyApplies r froms tos row) (figures_any_by_table r froms tos row answer (figures_any_row r froms tos row) says refl).first (refl, (refl, (refl, (refl, (refl, (refl, (refl, (refl, (refl, tt)))))))))
 
 -- An accepted list in two rows, and a row for its figures.
 module _ (r : Run) (froms tos : List ℕ) (p : PriceableAny r froms tos) where
@@ -100,10 +100,10 @@ module _ (r : Run) (froms tos : List ℕ) (p : PriceableAny r froms tos) where
   good = accepted_any r p.run
 
   well : WellFormedAny r.head (stops_of r) (list_of froms tos)
-  well = list-any-formed r.head (stops_of r) froms tos p.list
+  well = list_any_formed r.head (stops_of r) froms tos p.list
 
   count : length (list_of froms tos) ≡ length froms
-  count = length_list froms tos (any-even r.head (stops_of r) froms tos p.list)
+  count = length_list froms tos (any_even r.head (stops_of r) froms tos p.list)
 
   size : length (figures_any_of r (list_of froms tos)) ≡ length froms
   size = figures_length r (list_of froms tos) ∙ count
@@ -121,7 +121,7 @@ module _ (r : Run) (froms tos : List ℕ) (p : PriceableAny r froms tos) where
       let e = without_is (list_of froms tos) i in
       let w = without_formed_any r.head (stops_of r) (list_of froms tos) i (omega (arith, count)) well in
       record {
-        formed = rw (← e) (is-formed-any r good (without i (list_of froms tos)) w);
+        formed = rw (← e) (is_formed_any r good (without i (list_of froms tos)) w);
         less = λ gs hs are whole. rw (walked_as (without i (list_of froms tos)) w gs (rw e are), walked_as (list_of froms tos) well hs whole) (is_less _ _);
       }
 
@@ -130,8 +130,8 @@ module _ (r : Run) (froms tos : List ℕ) (p : PriceableAny r froms tos) where
   unfolding priced_any_answer
   told row fits answer says out is =
       record {
-        even = any-even r.head (stops_of r) froms tos p.list;
-        formed = is-formed-any r good (list_of froms tos) well;
+        even = any_even r.head (stops_of r) froms tos p.list;
+        formed = is_formed_any r good (list_of froms tos) well;
         sum = λ gs are. rw says (sym (walked_as (list_of froms tos) well gs are));
         finish = λ gs are. rw says (ap (λ hs. (walked r.turn (head_at r.head) hs).clock) (sym (legs_one r good (list_of froms tos) well gs are)));
         end = λ gs are. rw says (ap (λ hs. (walked r.turn (head_at r.head) hs).place) (sym (legs_one r good (list_of froms tos) well gs are)));
@@ -173,7 +173,7 @@ module _ (r : Run) (list : List Detour) (accepts : refuses (judge_any_of r) ≡ 
       record {
         run = accepts;
         list =
-            list-any-accepted r.head (stops_of r) (map (λ d. d.from) list) (map (λ d. d.to) list) (length-map list (λ d. d.from) ∙ sym (length-map list (λ d. d.to)))
+            list_any_accepted r.head (stops_of r) (map (λ d. d.from) list) (map (λ d. d.to) list) (length-map list (λ d. d.from) ∙ sym (length-map list (λ d. d.to)))
             (rw (list_of_halves list) least.formed);
       }
 
@@ -190,7 +190,7 @@ module _ (r : Run) (list : List Detour) (accepts : refuses (judge_any_of r) ≡ 
   plan_pays : PlanPays (priced_any_answer r list) (figures_any_answer r (map (λ d. d.from) list) (map (λ d. d.to) list) row) (figures_any_row r (map (λ d. d.from) list) (map (λ d. d.to) list) row)
   unfolding priced_any_answer
   plan_pays =
-      let so = figured-so r (map (λ d. d.from) list) (map (λ d. d.to) list) row rows_priceable (omega (arith, length-map list (λ d. d.from), fits)) _ refl in
+      let so = figured_so r (map (λ d. d.from) list) (map (λ d. d.to) list) row rows_priceable (omega (arith, length-map list (λ d. d.from), fits)) _ refl in
       let at : (i : ℕ) → i < length list → get_or (figures_any_row r (map (λ d. d.from) list) (map (λ d. d.to) list) row) i (pos 0) ≡ figure_any_of r list i =
       λ i l. rw (← so.1) (figure_in r (map (λ d. d.from) list) (map (λ d. d.to) list) rows_priceable _ i (omega (arith, length-map list (λ d. d.from))) ∙ ap (λ l. figure_any_of r l i) (list_of_halves list)) in
       record {
@@ -201,7 +201,7 @@ module _ (r : Run) (list : List Detour) (accepts : refuses (judge_any_of r) ≡ 
 
   plan_so : (planned : Answer) → planned ≡ priced_any_answer r list → (starts ends : List ℕ) → starts ≡ map (λ d. d.from) list → ends ≡ map (λ d. d.to) list
       → (answer : Answer) → answer ≡ figures_any_answer r starts ends row → (out : List ℤ) → out ≡ figures_any_row r starts ends row → PlanPays planned answer out
-  plan_so planned is starts ends starts-are ends-are answer says out fills = rw (says, fills, starts-are, ends-are, is) plan_pays
+  plan_so planned is starts ends starts_are ends_are answer says out fills = rw (says, fills, starts_are, ends_are, is) plan_pays
 
 long_enough : (r : Run) (list : List Detour) (planned : Answer) (row : List ℤ) → planned ≡ priced_any_answer r list → planned.detours ≤ length row → length list ≤ length row
 unfolding priced_any_answer
@@ -210,7 +210,7 @@ long_enough r list planned row says fits = rw says at fits
 pub plans_any_pay : PlansAnyPay
 plans_any_pay r before told after plans accepts row fits answer says out fills =
     let plan = planned r before told after plans accepts in
-    plan_so r plan.list (run-passed r before (not-refused r before told after plans accepts)) plan.least row (long_enough r plan.list told row plan.says fits)
+    plan_so r plan.list (run_passed r before (not_refused r before told after plans accepts)) plan.least row (long_enough r plan.list told row plan.says fits)
     told plan.says _ _
-    (any-starts-in-rows r plan.list before told after plan.says plan.rows) (any-ends-in-rows r plan.list before told after plan.says plan.rows)
+    (any_starts_in_rows r plan.list before told after plan.says plan.rows) (any_ends_in_rows r plan.list before told after plan.says plan.rows)
     answer says out fills

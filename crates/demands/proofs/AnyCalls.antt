@@ -31,11 +31,11 @@ use Rattle.demands.specs.AnyHead.{RunAppliesAny, ListIsBadAny, PriceAnyApplies, 
 use Rattle.demands.specs.Calls.{in_sums}
 use Rattle.demands.specs.AnyCalls.{PriceAnyCallApplies, PlanAnyCallApplies, PlanAnyCallAnswers, Demand1PriceAnyCall, Demand1PlanAnyCall, PlanAnyCallWalks, Demand2PriceAnyCall, Demand2PlanAnyCall, Demand3PlanAnyCall}
 use Rattle.demands.proofs.Tests.{tells_below, tells_either}
-use Rattle.demands.proofs.Checks.{refused-iff, decides_if, decides_reworded, Finds, finds-none, finds-first, first_of_joined}
-use Rattle.demands.proofs.Demand1.{tells_reads, IsShort, tells-short}
+use Rattle.demands.proofs.Checks.{refused_iff, decides_if, decides_reworded, Finds, finds_none, finds_first, first_of_joined}
+use Rattle.demands.proofs.Demand1.{tells_reads, IsShort, tells_short}
 use Rattle.demands.proofs.Calls.{one_check}
-use Rattle.demands.proofs.AnyJudged.{run-any-finds, decides-list-any}
-use Rattle.demands.proofs.AnyHead.{price-of-run, price-list, ReadsShort, short_reads, reads_short, plan-of-run, short_row, row_short, short_room, room-short, price_of_list_any, demand2_walk_any, demand2_least_any, demand3_any}
+use Rattle.demands.proofs.AnyJudged.{run_any_finds, decides_list_any}
+use Rattle.demands.proofs.AnyHead.{price_of_run, price_list, ReadsShort, short_reads, reads_short, plan_of_run, short_row, row_short, short_room, room_short, price_of_list_any, demand2_walk_any, demand2_least_any, demand3_any}
 
 -- The pricer's call.
 module _ (r : Run) (froms tos : List ℕ) (rows : ReadRows) (sums : List ℕ) where
@@ -43,11 +43,11 @@ module _ (r : Run) (froms tos : List ℕ) (rows : ReadRows) (sums : List ℕ) wh
   AtPrice = PriceAnyCallApplies r froms tos rows sums
 
   price_call_run : (k : Refusal) (p : ℕ) → number_of k ≤ 7 → AtPrice k p → RunAppliesAny r k p
-  price_call_run k p l (PriceAnyCallApplies.price h) = price-of-run r froms tos rows k p l h
+  price_call_run k p l (PriceAnyCallApplies.price h) = price_of_run r froms tos rows k p l h
   price_call_run k p l (PriceAnyCallApplies.short_sums h) = absurd (omega arith)
 
   price_call_list : (p : ℕ) → AtPrice BadEntry p → ListIsBadAny r froms tos p
-  price_call_list p (PriceAnyCallApplies.price h) = price-list r froms tos rows p h
+  price_call_list p (PriceAnyCallApplies.price h) = price_list r froms tos rows p h
 
   abbrev EitherShort : Type 0
   EitherShort = ReadsShort r froms tos rows ⊎ (length sums < 4)
@@ -68,14 +68,14 @@ module _ (r : Run) (froms tos : List ℕ) (rows : ReadRows) (sums : List ℕ) wh
       let four = refuse_if (short_sums sums) ShortRow in
       rw
       (first_of_joined (judge_any_of r ∷ list ∷ row ∷ []) (four ∷ []))
-      (run-any-finds r AtPrice (λ k p h. PriceAnyCallApplies.price (PriceAnyApplies.run h)) price_call_run (BadEntry ∷ ShortRow ∷ []) (list ∷ row ∷ four ∷ [])
-      (λ e. finds-first AtPrice (row ∷ four ∷ []) refl
-      (decides_reworded (λ p h. PriceAnyCallApplies.price (PriceAnyApplies.bad_list h)) price_call_list (decides-list-any r (accepted_any r e) froms tos))
+      (run_any_finds r AtPrice (λ k p h. PriceAnyCallApplies.price (PriceAnyApplies.run h)) price_call_run (BadEntry ∷ ShortRow ∷ []) (list ∷ row ∷ four ∷ [])
+      (λ e. finds_first AtPrice (row ∷ four ∷ []) refl
+      (decides_reworded (λ p h. PriceAnyCallApplies.price (PriceAnyApplies.bad_list h)) price_call_list (decides_list_any r (accepted_any r e) froms tos))
       (λ b. rw (one_check a (short_sums sums))
-      (finds-first AtPrice [] refl
+      (finds_first AtPrice [] refl
       (decides_reworded short_price_call price_call_short
       (decides_if _ ShortRow (tells_either a (short_sums sums) (tells_reads (length r.numbers) rows) (tells_below (length sums) 4))))
-      (λ c. finds-none AtPrice)))))
+      (λ c. finds_none AtPrice)))))
 
   price_call_accepted : refuses (price_any_call r froms tos rows sums) ≡ false → price_any_call r froms tos rows sums ≡ accepted
   unfolding price_any_call
@@ -101,7 +101,7 @@ demand1_price_any_call r froms tos rows sums code rowsOut sumsOut called =
       says = called.says;
       first = price_call_finds r froms tos rows sums;
       kept = price_call_kept r froms tos rows sums code rowsOut sumsOut called (refuses v) refl;
-      both = refused-iff (AtPrice r froms tos rows sums) (price_call_finds r froms tos rows sums) (refl, (refl, (refl, (refl, (refl, (refl, (refl, (refl, (refl, tt)))))))));
+      both = refused_iff (AtPrice r froms tos rows sums) (price_call_finds r froms tos rows sums) (refl, (refl, (refl, (refl, (refl, (refl, (refl, (refl, (refl, tt)))))))));
     }
 
 -- The row of sums holds the numbers of an accepted answer.
@@ -127,7 +127,7 @@ module _ (r : Run) (rows : Rows) (sums : List ℕ) where
   AtPlan = PlanAnyCallApplies r rows sums
 
   plan_call_run : (k : Refusal) (p : ℕ) → number_of k ≤ 7 → AtPlan k p → RunAppliesAny r k p
-  plan_call_run k p l (PlanAnyCallApplies.plan h) = plan-of-run r rows k p l h
+  plan_call_run k p l (PlanAnyCallApplies.plan h) = plan_of_run r rows k p l h
   plan_call_run k p l (PlanAnyCallApplies.short_sums h) = absurd (omega arith)
 
   module _ (good : GoodAnyRun r) where
@@ -139,7 +139,7 @@ module _ (r : Run) (rows : Rows) (sums : List ℕ) where
     plan_call_short p (PlanAnyCallApplies.short_sums h) = (refl, inr h)
 
     plan_call_room : (p : ℕ) → AtPlan ShortRoom p → (p ≡ 0) × (length rows.room < room_for r)
-    plan_call_room p (PlanAnyCallApplies.plan h) = room-short r rows good p h
+    plan_call_room p (PlanAnyCallApplies.plan h) = room_short r rows good p h
 
   plan_call_finds : Finds AtPlan plan_order (plan_any_call r rows sums)
   unfolding plan_any_call
@@ -147,13 +147,13 @@ module _ (r : Run) (rows : Rows) (sums : List ℕ) where
       let rows_short = short_rows (length r.numbers) (length (stops_of r)) rows in
       let short = refuse_if (rows_short || short_sums sums) ShortRow in
       let room = refuse_if (ltb (length rows.room) (room_for r)) ShortRoom in
-      run-any-finds r AtPlan (λ k p h. PlanAnyCallApplies.plan (PlanAnyApplies.run h)) plan_call_run (ShortRow ∷ ShortRoom ∷ []) (short ∷ room ∷ [])
-      (λ a. finds-first AtPlan (room ∷ []) refl
+      run_any_finds r AtPlan (λ k p h. PlanAnyCallApplies.plan (PlanAnyApplies.run h)) plan_call_run (ShortRow ∷ ShortRoom ∷ []) (short ∷ room ∷ [])
+      (λ a. finds_first AtPlan (room ∷ []) refl
       (decides_reworded (short_plan_call (accepted_any r a)) (plan_call_short (accepted_any r a))
-      (decides_if (rows_short || short_sums sums) ShortRow (tells_either rows_short (short_sums sums) (tells-short r rows) (tells_below (length sums) 4))))
-      (λ b. finds-first AtPlan [] refl
+      (decides_if (rows_short || short_sums sums) ShortRow (tells_either rows_short (short_sums sums) (tells_short r rows) (tells_below (length sums) 4))))
+      (λ b. finds_first AtPlan [] refl
       (decides_reworded (λ p h. PlanAnyCallApplies.plan (short_room r rows (accepted_any r a) p h)) (plan_call_room (accepted_any r a)) (decides_if _ ShortRoom (tells_below (length rows.room) (room_for r))))
-      (λ c. finds-none AtPlan)))
+      (λ c. finds_none AtPlan)))
 
   plan_call_accepted : refuses (plan_any_call r rows sums) ≡ false → plan_any_call r rows sums ≡ accepted
   unfolding plan_any_call
@@ -163,7 +163,7 @@ module _ (r : Run) (rows : Rows) (sums : List ℕ) where
       none_refuses (judge_any_of r ∷ refuse_if short ShortRow ∷ refuse_if room ShortRoom ∷ []) e
 
   plan_call_both : {kind : Refusal} {place : ℕ} → FirstThatApplies AtPlan plan_order kind place → (kind ≡ Accepted → ⊥) ↔ SomeApplies AtPlan plan_order
-  plan_call_both first = refused-iff AtPlan first (refl, (refl, (refl, (refl, (refl, (refl, (refl, (refl, (refl, tt)))))))))
+  plan_call_both first = refused_iff AtPlan first (refl, (refl, (refl, (refl, (refl, (refl, (refl, (refl, (refl, tt)))))))))
 
   module _ (code : ℕ) (after : Rows) (out : List ℕ) (called : PlanAnyCalled r rows sums code after out) where
     plan_call_says : (b : Bool) → refuses (plan_any_call r rows sums) ≡ b → PlanAnyCallAnswers r rows sums code after out

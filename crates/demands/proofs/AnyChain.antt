@@ -26,7 +26,7 @@ use Rattle.demands.specs.AnyLegs.{AreLegsOf}
 use Rattle.demands.specs.AnyHead.{IsWalkAnyOf, Chained, ChainsOn, AnyChain}
 use Rattle.demands.proofs.AnyLegs.{holds_true, holds_not}
 use Rattle.demands.proofs.AnyHead.{good_run, demand2_walk_any}
-use Rattle.demands.proofs.Ends.{some-stops}
+use Rattle.demands.proofs.Ends.{some_stops}
 use Rattle.demands.proofs.Nothing.{no_stops}
 
 -- After a leg the head faces right, and its next move costs a turn.
@@ -136,7 +136,7 @@ module _ (first second : Run) (good : GoodAnyRun first) (good' : GoodAnyRun seco
   at = sym (here ∙ one.end)
 
   some_legs : (r : Run) → GoodAnyRun r → (l : List Detour) → AreLegsOf r l (run_legs r l) → 0 < length r.numbers → 0 < length (run_legs r l)
-  some_legs r g l made some = omega (arith, made.many (some-stops (lifted r) g.run some))
+  some_legs r g l made some = omega (arith, made.many (some_stops (lifted r) g.run some))
 
   chained : (later : ℕ) → (ready last U).clock ≡ later + (ready (head_at second.head) U).clock → Chained first second later answer' list list'
   chained later since =

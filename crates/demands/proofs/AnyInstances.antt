@@ -26,7 +26,7 @@ use Rattle.planner.specs.Rows.{Rows, rows_of}
 use Rattle.demands.specs.Demand2.{list_in}
 use Rattle.demands.specs.AnyHead.{NothingAppliesAny, IsLeastAny, AsksNoLessAny, ReadsAtOnce, Chained}
 use Rattle.demands.specs.Ends.{EndsWithARead}
-use Rattle.demands.proofs.AnyJudged.{judged-nothing-any}
+use Rattle.demands.proofs.AnyJudged.{judged_nothing_any}
 use Rattle.demands.proofs.AnyHead.{demand2_least_any, demand3_any, left_of_all}
 use Rattle.demands.proofs.AnyChain.{any_chain}
 use Rattle.demands.proofs.Ends.{plan_any_ends_with_a_read}
@@ -90,7 +90,7 @@ wanderings = record { left = 7; right = 55 } ∷ record { left = 0; right = 33 }
 
 more_accepted : NothingAppliesAny more_asked
 unfolding judge_any_of first_where goes_on first_member last_within want_stops join_to joined right_end
-more_accepted = judged-nothing-any more_asked refl
+more_accepted = judged_nothing_any more_asked refl
 
 no_fewer : (a b : Bool) → cond a 1 (cond b 5 0) ≤ cond a 1 (cond b 6 0)
 no_fewer true b = omega arith

@@ -1,7 +1,7 @@
 -- Rows 1 to 7 and 10 of the refusal table for a head anywhere: the judging finds the first that applies, and the check of a list decides its condition.
 use Prim.Native.Nat.{ℕ, zero, suc, ◌-◌, ◌≤◌, ◌<◌}
 use mathlib.Core.Path.{◌≡◌, refl, sym, ap, ◌∙◌}
-use mathlib.Core.Bool.{Bool, true, false, ◌||◌, ◌&&◌, true≢false, or_true}
+use mathlib.Core.Bool.{Bool, true, false, ◌||◌, ◌&&◌, true≢false, or-true}
 use mathlib.Core.Logic.{◌⊎◌, inl, inr, ⊎_elim}
 use mathlib.Core.List.{List, [], ◌∷◌}
 use native.Mathlib.Omega.{arith}
@@ -21,19 +21,19 @@ use Rattle.runs.specs.AnyHead.{head_any_checks, judge_any_of, past_head, bad_ent
 use Rattle.runs.specs.Private.{row_named, row_bad}
 use Rattle.runs.proofs.Search.{true_or_false, first_same}
 use Rattle.runs.proofs.Members.{and_true_both}
-use Rattle.runs.proofs.Stops.{run_sound, start-of-name, wanted_at}
+use Rattle.runs.proofs.Stops.{run_sound, start_of_name, wanted_at}
 use Rattle.runs.proofs.Formed.{place_at}
-use Rattle.runs.proofs.Entries.{bad-row, length_list, entry_row, wanted-named}
+use Rattle.runs.proofs.Entries.{bad_row, length_list, entry_row, wanted_named}
 use Rattle.runs.proofs.AnyHead.{GoodAnyRun}
-use Rattle.walk.proofs.AnyHead.{past-each}
+use Rattle.walk.proofs.AnyHead.{past_each}
 use Rattle.demands.specs.RefusalTable.{NamesStop, RunApplies, SomeApplies}
 use Rattle.demands.specs.AnyHead.{RunAppliesAny, NothingAppliesAny, TakesWhat01Takes, StartsPast, EntryIsBadAny, ListIsBadAny}
 use Rattle.demands.proofs.Tests.{Tells, tells_below, tells_holds, tells_either, tells_reworded}
-use Rattle.demands.proofs.Checks.{Decides, refused, decides_if, decides_at, decides_alone, decides_reworded, Finds, finds-none, first_of_joined, both_pass, AllRefuse, refused-iff}
+use Rattle.demands.proofs.Checks.{Decides, refused, decides_if, decides_at, decides_alone, decides_reworded, Finds, finds_none, first_of_joined, both_pass, AllRefuse, refused_iff}
 use Rattle.demands.specs.Judged.{run_order}
-use Rattle.demands.proofs.Judged.{table-finds, wants-find, turn-finds, run_small, none_found}
-use Rattle.demands.proofs.Listed.{entry-is-bad, names-stop}
-use Rattle.demands.proofs.AnyLifted.{names-down, names-up, entry-down, entry-up}
+use Rattle.demands.proofs.Judged.{table_finds, wants_find, turn_finds, run_small, none_found}
+use Rattle.demands.proofs.Listed.{entry_is_bad, names_stop_lem}
+use Rattle.demands.proofs.AnyLifted.{names_down, names_up, entry_down, entry_up}
 
 -- 1 to 6 are 01's.
 early_other : (k : Refusal) → number_of k ≤ 6 → k ≡ HeadPlace → ⊥
@@ -59,8 +59,8 @@ module _ (r : Run) (applies : Refusal → ℕ → Type 0) (there : (k : Refusal)
   sooner_back : (k : Refusal) (p : ℕ) → number_of k ≤ 6 → applies k p → RunApplies r k p
   sooner_back k p l h = early_01 r k p l (back k p (omega arith) h)
 
-  head_decides : Decides HeadPlace (applies HeadPlace) (refuse_if (ltb last_place r.head) HeadPlace)
-  head_decides =
+  head_decides_here : Decides HeadPlace (applies HeadPlace) (refuse_if (ltb last_place r.head) HeadPlace)
+  head_decides_here =
       decides_reworded (λ p h. rw h.0 (there HeadPlace 0 (RunAppliesAny.head_far h.1))) (λ p h. head_only r p (back HeadPlace p (omega arith) h))
       (decides_if _ HeadPlace (tells_below last_place r.head))
 
@@ -73,9 +73,9 @@ module _ (r : Run) (applies : Refusal → ℕ → Type 0) (there : (k : Refusal)
       let head = first_of (head_any_checks r.turn r.head) in
       rw
       (first_of_joined (table ∷ wants ∷ head ∷ []) vs)
-      (table-finds r applies sooner sooner_back (WantRows ∷ BadWant ∷ TooManyReads ∷ TurnPrice ∷ HeadPlace ∷ rest) (wants ∷ head ∷ vs)
-      (λ a. wants-find r applies sooner sooner_back (TurnPrice ∷ HeadPlace ∷ rest) (head ∷ vs)
-      (λ b. turn-finds r applies sooner sooner_back (refuse_if (ltb last_place r.head) HeadPlace) rest vs head_decides
+      (table_finds r applies sooner sooner_back (WantRows ∷ BadWant ∷ TooManyReads ∷ TurnPrice ∷ HeadPlace ∷ rest) (wants ∷ head ∷ vs)
+      (λ a. wants_find r applies sooner sooner_back (TurnPrice ∷ HeadPlace ∷ rest) (head ∷ vs)
+      (λ b. turn_finds r applies sooner sooner_back (refuse_if (ltb last_place r.head) HeadPlace) rest vs head_decides_here
       (λ c. others (both_pass table (wants ∷ head ∷ []) a (both_pass wants (head ∷ []) b (both_pass head [] c refl)))))))
 
 pub takes_what_01_takes : TakesWhat01Takes
@@ -89,7 +89,7 @@ module _ (r : Run) where
   none_of_any (k ∷ order) n s = ⊎_elim (λ h. n k h.0 h.1) (none_of_any order n) s
 
   judged_finds : Finds (RunAppliesAny r) run_order (first_of (judge_any_of r ∷ []))
-  judged_finds = run_any_finds r (RunAppliesAny r) (λ k p h. h) (λ k p l h. h) [] [] (λ a. finds-none (RunAppliesAny r))
+  judged_finds = run_any_finds r (RunAppliesAny r) (λ k p h. h) (λ k p l h. h) [] [] (λ a. finds_none (RunAppliesAny r))
 
   pub nothing_judged_any : NothingAppliesAny r → refuses (judge_any_of r) ≡ false
   nothing_judged_any n = none_found (RunAppliesAny r) (judge_any_of r) judged_finds (refl, (refl, (refl, (refl, (refl, (refl, (refl, tt))))))) (none_of_any run_order n)
@@ -111,7 +111,7 @@ module _ (r : Run) where
   pub judged_nothing_any : refuses (judge_any_of r) ≡ false → NothingAppliesAny r
   judged_nothing_any e k p h =
       let found : Finds (RunAppliesAny r) run_order accepted = rw (first_passes (judge_any_of r) [] e) at judged_finds in
-      (refused-iff (RunAppliesAny r) found (refl, (refl, (refl, (refl, (refl, (refl, (refl, tt)))))))).1 (some_of_any h) refl
+      (refused_iff (RunAppliesAny r) found (refl, (refl, (refl, (refl, (refl, (refl, (refl, tt)))))))).1 (some_of_any h) refl
 
 -- A stop of a smaller name that starts at or right of the head.
 record Passed (m : ℕ) (ss : List Stop) (f : ℕ) : Type 0 where
@@ -138,7 +138,7 @@ name_wanted : (ss : List Stop) (i : ℕ) → i < length ss → wanted ss (stop_a
 unfolding wanted
 name_wanted [] i l = absurd (omega arith)
 name_wanted (s ∷ ss) zero l = rw (eq-eqb s.file s.file refl)
-name_wanted (s ∷ ss) (suc i) l = rw (name_wanted ss i (omega arith), or_true)
+name_wanted (s ∷ ss) (suc i) l = rw (name_wanted ss i (omega arith), or-true)
 
 -- 10, for an accepted run.
 module _ (r : Run) (good : GoodAnyRun r) where
@@ -150,13 +150,13 @@ module _ (r : Run) (good : GoodAnyRun r) where
   start_named i l =
       let w = name_wanted (stops_of r) i l in
       sym (place_at (stops_of r) (lifted r).head (run_sound (lifted r) good.run) (λ s. s.start) i l)
-      ∙ start-of-name r.starts r.lengths r.aggregates r.numbers r.counts (stop_at (stops_of r) i).file w
+      ∙ start_of_name r.starts r.lengths r.aggregates r.numbers r.counts (stop_at (stops_of r) i).file w
 
   -- Its name is one.
   pub stop_names : (i : ℕ) → i < length (stops_of r) → NamesStop r (stop_at (stops_of r) i).file
   stop_names i l =
       let name = (stop_at (stops_of r) i).file in
-      names-down r ((names-stop (lifted r) good.run name).when_true (sym (wanted-named r.starts r.lengths r.aggregates r.numbers r.counts same name) ∙ name_wanted (stops_of r) i l))
+      names_down r ((names_stop_lem (lifted r) good.run name).when_true (sym (wanted_named r.starts r.lengths r.aggregates r.numbers r.counts same name) ∙ name_wanted (stops_of r) i l))
 
   past_starts : (f : ℕ) → past_head r.head (stops_of r) f ≡ true → StartsPast r f
   past_starts f e =
@@ -170,10 +170,10 @@ module _ (r : Run) (good : GoodAnyRun r) where
 
   not_past_starts : (f : ℕ) → past_head r.head (stops_of r) f ≡ false → StartsPast r f → ⊥
   not_past_starts f e s =
-      let row = tells_holds (row_named r.aggregates r.numbers s.stop) (names-stop (lifted r) good.run s.stop) (names-up r s.names) in
-      let w = wanted-named r.starts r.lengths r.aggregates r.numbers r.counts same s.stop ∙ row in
+      let row = tells_holds (row_named r.aggregates r.numbers s.stop) (names_stop_lem (lifted r) good.run s.stop) (names_up r s.names) in
+      let w = wanted_named r.starts r.lengths r.aggregates r.numbers r.counts same s.stop ∙ row in
       let at = wanted_at (stops_of r) s.stop w in
-      let left = past-each r.head (stops_of r) f e at.index at.within (omega (arith, at.is, s.smaller)) in
+      let left = past_each r.head (stops_of r) f e at.index at.within (omega (arith, at.is, s.smaller)) in
       let start = start_named at.index at.within in
       omega (arith, left, start ∙ ap (λ n. get_or r.starts (n - 1) 0) at.is, s.right)
 
@@ -188,7 +188,7 @@ module _ (r : Run) (good : GoodAnyRun r) where
     unfolding row_bad_any
     row_tells i =
         tells_either (row_bad r.aggregates r.numbers froms tos i) (past_head r.head (stops_of r) (get_or froms i 0))
-        (tells_reworded (entry-down r froms tos i) (entry-up r froms tos i) (entry-is-bad (lifted r) good.run froms tos i))
+        (tells_reworded (entry_down r froms tos i) (entry_up r froms tos i) (entry_is_bad (lifted r) good.run froms tos i))
         (past_tells (get_or froms i 0))
 
     first_row_here : length froms ≡ length tos → first_bad_entry_any r.head (stops_of r) (list_of froms tos) ≡ first_where row_bad_any (length froms)
@@ -196,7 +196,7 @@ module _ (r : Run) (good : GoodAnyRun r) where
     first_row_here even =
         rw (length_list froms tos even)
         (first_same (bad_entry_any r.head (stops_of r) (list_of froms tos)) row_bad_any (length froms)
-        (λ i l. rw (bad-row r.starts r.lengths r.aggregates r.numbers r.counts same froms tos even i l, entry_row froms tos even i l)))
+        (λ i l. rw (bad_row r.starts r.lengths r.aggregates r.numbers r.counts same froms tos even i l, entry_row froms tos even i l)))
 
     decides_entries : length froms ≡ length tos → Decides BadEntry (ListIsBadAny r froms tos) (first_of (refuse_at (first_bad_entry_any r.head (stops_of r) (list_of froms tos)) BadEntry ∷ []))
     decides_entries even =

@@ -16,7 +16,7 @@ use Rattle.runs.specs.AnyHead.{smaller, pulled_stop, pulled, WellFormedAny, lift
 use Rattle.runs.proofs.Search.{true_or_false}
 use Rattle.runs.proofs.Sound.{Sound}
 use Rattle.runs.proofs.Stops.{run_sound}
-use Rattle.runs.proofs.Formed.{formed_names, names-most}
+use Rattle.runs.proofs.Formed.{formed_names, names_most}
 use Rattle.runs.proofs.AnyHead.{GoodAnyRun, smaller_first, smaller_second, smaller_is, pulled_length}
 use Rattle.walk.specs.declared.Leg.{Leg}
 use Rattle.walk.specs.Walk.{served}
@@ -24,11 +24,11 @@ use Rattle.walk.specs.Detours.{leg_of, unread_end, sweep_end, last_sweep, legs_o
 use Rattle.walk.specs.AnyHead.{run_legs, legs_any_of}
 use Rattle.walk.proofs.Walks.{found}
 use Rattle.walk.proofs.Sweeps.{passed, kept}
-use Rattle.walk.proofs.Pulled.{start-pulled, end-pulled, detours-left, served-pulled, sweep-pulled}
+use Rattle.walk.proofs.Pulled.{start_pulled, end_pulled, detours_left, served_pulled, sweep_pulled}
 use Rattle.walk.proofs.AnyHead.{any_formed}
 use Rattle.least.proofs.Lists.{none_wanted}
 use Rattle.least.proofs.Sweeps.{none_reads_first, legs_count}
-use Rattle.least.proofs.LeastAny.{starts-past-first}
+use Rattle.least.proofs.LeastAny.{starts_past_first}
 use Rattle.demands.specs.Legs.{leg_numbered}
 use Rattle.demands.specs.AnyLegs.{IsSmaller, GoesOver, SweepsUp, AreLegsOf}
 
@@ -118,7 +118,7 @@ numbered gs i = let e : i + 1 - 1 ≡ i = omega arith in rw e
 pub leftmost_unread : (m M : ℕ) (s : Stop) (ss : List Stop) → Sound (s ∷ ss) M → (list : List Detour) → WellFormedAny m (s ∷ ss) list
     → served (map (leg_of (pulled m (s ∷ ss))) list) (pulled_stop m s) ≡ false
 unfolding pulled
-leftmost_unread m M s ss ok list formed = none_reads_first (pulled_stop m s) (pulled m ss) list (starts-past-first m M s ss ok list formed 0)
+leftmost_unread m M s ss ok list formed = none_reads_first (pulled_stop m s) (pulled m ss) list (starts_past_first m M s ss ok list formed 0)
 
 -- The last sweep of a list: where it stands among the legs, where it turns, and where it ends.
 record Sweep (m : ℕ) (stops : List Stop) (list : List Detour) : Type 0 where
@@ -132,12 +132,12 @@ unfolding legs_of last_sweep pulled
 its_sweep m M [] ok list formed some = absurd (omega arith)
 its_sweep m M (s ∷ ss) ok list formed some =
     let gs = map (leg_of (pulled m (s ∷ ss))) list in
-    let left = detours-left m (s ∷ ss) list in
+    let left = detours_left m (s ∷ ss) list in
     record {
       leg = record { left = smaller s.start m; right = sweep_end gs (s ∷ ss) };
-      behind = ap (λ e. gs ++ record { left = smaller s.start m; right = e } ∷ []) (sweep-pulled m gs left (s ∷ ss));
+      behind = ap (λ e. gs ++ record { left = smaller s.start m; right = e } ∷ []) (sweep_pulled m gs left (s ∷ ss));
       from = refl;
-      to = sweep_last gs s ss (sym (served-pulled m gs left s) ∙ leftmost_unread m M s ss ok list formed);
+      to = sweep_last gs s ss (sym (served_pulled m gs left s) ∙ leftmost_unread m M s ss ok list formed);
     }
 
 no_legs_lem : (m : ℕ) (stops : List Stop) (list : List Detour) → WellFormed stops list → length stops ≡ 0 → length (legs_any_of m stops list) ≡ 0
@@ -160,8 +160,8 @@ module _ (r : Run) (good : GoodAnyRun r) where
   -- Two legs of one detour are the same, and so are two sweeps behind the same legs.
   one_place : (i j : ℕ) → i < length (stops_of r) → j < length (stops_of r) → (stop_at (stops_of r) i).file ≡ (stop_at (stops_of r) j).file → i ≡ j
   one_place i j a b e =
-      let up = names-most (stops_of r) (lifted r).head sound i j b (omega (arith, e)) a in
-      let down = names-most (stops_of r) (lifted r).head sound j i a (omega (arith, e)) b in
+      let up = names_most (stops_of r) (lifted r).head sound i j b (omega (arith, e)) a in
+      let down = names_most (stops_of r) (lifted r).head sound j i a (omega (arith, e)) b in
       omega (arith, up, down)
 
   one_detour : (from to : ℕ) (g h : Leg) → GoesOver r from to g → GoesOver r from to h → g ≡ h
@@ -172,7 +172,7 @@ module _ (r : Run) (good : GoodAnyRun r) where
       let right : g.right ≡ h.right = p.right ∙ ap (λ n. (stop_at (stops_of r) n).end) j ∙ sym q.right in
       ap₂ (λ a b. record { left = a; right = b }) left right
 
-  no_later : (before : List Leg) (g h : Leg) (p : SweepsUp r before g) (q : SweepsUp r before h) → q.last ≤ p.last
+  no_later_here : (before : List Leg) (g h : Leg) (p : SweepsUp r before g) (q : SweepsUp r before h) → q.last ≤ p.last
   no_later_here before g h p q = by_cases (dec_lt p.last q.last) (λ l. absurd (q.unread (p.others_read q.last l q.last_stop))) (λ n. omega arith)
 
   one_sweep : (before : List Leg) (g h : Leg) → SweepsUp r before g → SweepsUp r before h → g ≡ h
@@ -189,7 +189,7 @@ module _ (r : Run) (good : GoodAnyRun r) where
         let a = found (stops_of r) (entry_of list i).from names.0 in
         let b = found (stops_of r) (entry_of list i).to names.1 in
         let turns : g.left ≡ smaller (stop_at (stops_of r) a.index).start r.head
-        = ap (λ (g : Leg). g.left) is ∙ start-pulled r.head (stops_of r) (entry_of list i).from ∙ ap (λ x. smaller x r.head) a.starts in
+        = ap (λ (g : Leg). g.left) is ∙ start_pulled r.head (stops_of r) (entry_of list i).from ∙ ap (λ x. smaller x r.head) a.starts in
         record {
           first = a.index;
           first_stop = a.within;
@@ -198,7 +198,7 @@ module _ (r : Run) (good : GoodAnyRun r) where
           last = b.index;
           last_stop = b.within;
           last_name = b.is;
-          right = ap (λ (g : Leg). g.right) is ∙ end-pulled r.head (stops_of r) (entry_of list i).to ∙ b.ends;
+          right = ap (λ (g : Leg). g.right) is ∙ end_pulled r.head (stops_of r) (entry_of list i).to ∙ b.ends;
         }
 
     sweeps_up : (w : Sweep r.head (stops_of r) list) → SweepsUp r (take (length list) (run_legs r list)) (leg_numbered (run_legs r list) (length list + 1))

@@ -11,14 +11,14 @@ use Rattle.least.specs.AnyHead.{list_sum_any}
 use Rattle.demands.specs.AnyLegs.{AreLegsOf}
 use Rattle.demands.specs.AnyHead.{NothingAppliesAny, IsFormedAny}
 use Rattle.demands.specs.AnySums.{FormedAnyMeans, SumAnyMeans, LeastIsFormed, LeastWalkIsLeast}
-use Rattle.demands.proofs.AnyJudged.{nothing-judged-any}
-use Rattle.demands.proofs.AnyLegs.{legs-made}
-use Rattle.demands.proofs.AnyHead.{formed-list-any, is-formed-any, legs_are_one}
+use Rattle.demands.proofs.AnyJudged.{nothing_judged_any}
+use Rattle.demands.proofs.AnyLegs.{legs_made}
+use Rattle.demands.proofs.AnyHead.{formed_list_any, is_formed_any, legs_are_one}
 
 pub formed_any_means : FormedAnyMeans
 formed_any_means r nothing list =
-    let good = accepted_any r (nothing-judged-any r nothing) in
-    (is-formed-any r good list, formed-list-any r good list)
+    let good = accepted_any r (nothing_judged_any r nothing) in
+    (is_formed_any r good list, formed_list_any r good list)
 
 walk_sum : (r : Run) → NothingAppliesAny r → (list : List Detour) → IsFormedAny r list → (gs : List Leg) → AreLegsOf r list gs
     → list_sum_any r.turn r.head (stops_of r) list ≡ sum_of r.turn (head_at r.head) gs (stops_of r)
@@ -28,14 +28,14 @@ pub sum_any_means : SumAnyMeans
 sum_any_means r nothing list formed gs are = walk_sum r nothing list formed gs are
 
 pub least_is_formed : LeastIsFormed
-least_is_formed r nothing list least = is-formed-any r (accepted_any r (nothing-judged-any r nothing)) list least.formed
+least_is_formed r nothing list least = is_formed_any r (accepted_any r (nothing_judged_any r nothing)) list least.formed
 
 pub least_walk_is_least : LeastWalkIsLeast
 least_walk_is_least r nothing list gs are least =
-    let good = accepted_any r (nothing-judged-any r nothing) in
+    let good = accepted_any r (nothing_judged_any r nothing) in
     let own = walk_sum r nothing list least.formed gs are in
     record {
-      formed = formed-list-any r good list least.formed;
-      smallest = λ other w. rw own (least.smallest other (is-formed-any r good other w) (run_legs r other) (legs-made r good other w));
-      first = λ other w e. least.first other (is-formed-any r good other w) (run_legs r other) (legs-made r good other w) (e ∙ own);
+      formed = formed_list_any r good list least.formed;
+      smallest = λ other w. rw own (least.smallest other (is_formed_any r good other w) (run_legs r other) (legs_made r good other w));
+      first = λ other w e. least.first other (is_formed_any r good other w) (run_legs r other) (legs_made r good other w) (e ∙ own);
     }

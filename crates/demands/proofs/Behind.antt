@@ -13,7 +13,7 @@ use Rattle.runs.specs.Lists.{Detour, list_of}
 use Rattle.runs.specs.AnyHead.{judge_any_of, list_verdict_any, lifted}
 use Rattle.runs.proofs.Judged.{accepted_run}
 use Rattle.runs.proofs.AnyHead.{accepted_any}
-use Rattle.runs.proofs.Stops.{wants-length}
+use Rattle.runs.proofs.Stops.{wants_length}
 use Rattle.walk.specs.declared.Answer.{Answer}
 use Rattle.walk.specs.Walk.{head_at, times_of, legs_for}
 use Rattle.walk.specs.Price.{priced_answer, priced_times, priced_legs, read_rows_with, short_read_rows, price_rows}
@@ -27,17 +27,17 @@ use Rattle.boundary.proofs.Calls.{code_accepts}
 use Rattle.demands.specs.RefusalTable.{HasStops}
 use Rattle.demands.specs.Calls.{in_sums}
 use Rattle.demands.specs.Behind.{BehindReads, BehindPlan, PriceBehind, PriceAnyBehind, PlanBehind, PlanAnyBehind, PriceCallBehind, PriceAnyCallBehind, PlanCallBehind, PlanAnyCallBehind}
-use Rattle.demands.proofs.Counted.{stops-one}
-use Rattle.demands.proofs.AnyLifted.{stops-up}
-use Rattle.demands.proofs.Planned.{plan-in-rows, run-accepted}
-use Rattle.demands.proofs.Demand2.{checks-pass, price_accepts}
+use Rattle.demands.proofs.Counted.{stops_one}
+use Rattle.demands.proofs.AnyLifted.{stops_up}
+use Rattle.demands.proofs.Planned.{plan_in_rows, run_accepted}
+use Rattle.demands.proofs.Demand2.{checks_pass, price_accepts}
 use Rattle.demands.proofs.AnyHead.{price_any_accepts, planned, good_run}
 use Rattle.demands.proofs.Called.{price_passes, call, answered}
-use Rattle.demands.proofs.AnyCalls.{price-any-passes, any-call, any-answered}
+use Rattle.demands.proofs.AnyCalls.{price_any_passes, any_call, any_answered}
 
 -- One entry for each want.
 wants_many : (r : Run) → length r.numbers ≡ length r.counts → (f : Stop → ℕ) → length (map f (want_stops_of r)) ≡ length r.numbers
-wants_many r even f = one_each f (want_stops_of r) ∙ wants-length r.starts r.lengths r.aggregates r.numbers r.counts (sym even)
+wants_many r even f = one_each f (want_stops_of r) ∙ wants_length r.starts r.lengths r.aggregates r.numbers r.counts (sym even)
 
 module _ (r : Run) (list : List Detour) (even : length r.numbers ≡ length r.counts) where
   reads_behind : (before after : ReadRows) → after ≡ read_rows_with r list before → BehindReads r before after
@@ -74,7 +74,7 @@ pub price_behind : PriceBehind
 unfolding price_rows
 price_behind r froms tos rows answer out says fills accepts =
     let e = price_accepts r froms tos rows answer says accepts in
-    reads_behind r (list_of froms tos) (accepted_run r (checks-pass r froms tos rows e).0).wants.equal rows out (rw e at fills)
+    reads_behind r (list_of froms tos) (accepted_run r (checks_pass r froms tos rows e).0).wants.equal rows out (rw e at fills)
 
 any_even_wants : (r : Run) (froms tos : List ℕ) (rows : ReadRows) → refuses (price_any_verdict r froms tos rows) ≡ false → length r.numbers ≡ length r.counts
 unfolding price_any_verdict
@@ -90,10 +90,10 @@ price_any_behind r froms tos rows answer out says fills accepts =
 pub plan_behind : PlanBehind
 unfolding priced_answer
 plan_behind r before answer after plans accepts =
-    let plan = plan-in-rows r before answer after plans accepts in
-    let good = accepted_run r (run-accepted r before answer after plans accepts) in
+    let plan = plan_in_rows r before answer after plans accepts in
+    let good = accepted_run r (run_accepted r before answer after plans accepts) in
     plan_rows_behind r plan.list before after answer.detours (ap (λ (a : Answer). a.detours) plan.says) (reads_behind r plan.list good.wants.equal (reads_in before) (reads_in after) (ap reads_in plan.rows))
-    (ap (λ (x : Rows). x.froms) plan.rows) (ap (λ (x : Rows). x.tos) plan.rows) (ap (λ (x : Rows). x.room) plan.rows) (λ n s. stops-one r good s)
+    (ap (λ (x : Rows). x.froms) plan.rows) (ap (λ (x : Rows). x.tos) plan.rows) (ap (λ (x : Rows). x.room) plan.rows) (λ n s. stops_one r good s)
 
 pub plan_any_behind : PlanAnyBehind
 unfolding priced_any_answer
@@ -101,7 +101,7 @@ plan_any_behind r before answer after plans accepts =
     let plan = planned r before answer after plans accepts in
     let good = good_run r before answer after plans accepts in
     plan_rows_behind r plan.list before after answer.detours (ap (λ (a : Answer). a.detours) plan.says) (reads_any_behind r plan.list good.run.wants.equal (reads_in before) (reads_in after) (ap reads_in plan.rows))
-    (ap (λ (x : Rows). x.froms) plan.rows) (ap (λ (x : Rows). x.tos) plan.rows) (ap (λ (x : Rows). x.room) plan.rows) (λ n s. stops-one (lifted r) good.run (stops-up r s))
+    (ap (λ (x : Rows). x.froms) plan.rows) (ap (λ (x : Rows). x.tos) plan.rows) (ap (λ (x : Rows). x.room) plan.rows) (λ n s. stops_one (lifted r) good.run (stops_up r s))
 
 -- The calls in C.
 pub price_call_behind : PriceCallBehind
@@ -109,7 +109,7 @@ unfolding price_reads price_sums
 price_call_behind r froms tos rows sums code rowsOut sumsOut called zero-code =
     let e = code_accepts (price_call r froms tos rows sums) (sym called.says ∙ zero-code) in
     let passes = price_passes r froms tos rows sums e in (
-      reads_behind r (list_of froms tos) (accepted_run r (checks-pass r froms tos rows passes).0).wants.equal rows rowsOut (rw e at called.reads_are),
+      reads_behind r (list_of froms tos) (accepted_run r (checks_pass r froms tos rows passes).0).wants.equal rows rowsOut (rw e at called.reads_are),
       ap (drop 4) called.sums_are ∙ rw e,
     )
 
@@ -117,7 +117,7 @@ pub price_any_call_behind : PriceAnyCallBehind
 unfolding price_any_reads price_any_sums
 price_any_call_behind r froms tos rows sums code rowsOut sumsOut called zero-code =
     let e = code_accepts (price_any_call r froms tos rows sums) (sym called.says ∙ zero-code) in (
-      reads_any_behind r (list_of froms tos) (any_even_wants r froms tos rows (price-any-passes r froms tos rows sums e)) rows rowsOut (rw e at called.reads_are),
+      reads_any_behind r (list_of froms tos) (any_even_wants r froms tos rows (price_any_passes r froms tos rows sums e)) rows rowsOut (rw e at called.reads_are),
       ap (drop 4) called.sums_are ∙ rw e,
     )
 
@@ -127,4 +127,4 @@ plan_call_behind r rule before sums code after out called e =
 
 pub plan_any_call_behind : PlanAnyCallBehind
 plan_any_call_behind r before sums code after out called e =
-    (plan_any_behind r before (in_sums out) after (any-answered r before sums code after out called e) refl, ap (drop 4) (any-call r before sums code after out called e).sums_are)
+    (plan_any_behind r before (in_sums out) after (any_answered r before sums code after out called e) refl, ap (drop 4) (any_call r before sums code after out called e).sums_are)

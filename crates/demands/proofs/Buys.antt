@@ -30,21 +30,21 @@ use Rattle.walk.proofs.Walks.{accepted_list}
 use Rattle.least.specs.Least.{start_for, ComesFirst, list_sum, LeastFor}
 use Rattle.figures.specs.Figures.{without, figure_of, figures_by, figures_of, figures_verdict, figures_answer, figures_row}
 use Rattle.figures.specs.Private.{Priceable}
-use Rattle.figures.proofs.Without.{without-length, without_formed}
-use Rattle.figures.proofs.Answers.{list_accepted, list_formed, figures_length, figure_at, figured-so}
+use Rattle.figures.proofs.Without.{without_length, without_formed}
+use Rattle.figures.proofs.Answers.{list_accepted, list_formed, figures_length, figure_at, figured_so}
 use Rattle.engine_stops.proofs.Halves.{list_of_halves}
 use Rattle.sheet_figures.specs.FigureSheet.{figure_text, figure_sheet_verdict}
 use Rattle.demands.specs.RefusalTable.{RunApplies, ListIsBad}
 use Rattle.demands.specs.Demand1.{ByTheTable, price_order}
 use Rattle.demands.specs.Buys.{BuysApplies, FiguresAnswer, FiguresAnswerIff, Demand1FigureSheet, IsLess, left_out, IsBought, FiguresTold, FiguresTell, FiguresOne, PlanPays, PlansPay, BoughtHold}
 use Rattle.demands.proofs.Tests.{tells_below}
-use Rattle.demands.proofs.Checks.{refused-iff, decides_if, decides_reworded, Finds, finds-none, finds-first}
-use Rattle.demands.proofs.Judged.{run-finds, run_small}
-use Rattle.demands.proofs.Listed.{decides-list}
+use Rattle.demands.proofs.Checks.{refused_iff, decides_if, decides_reworded, Finds, finds_none, finds_first}
+use Rattle.demands.proofs.Judged.{run_finds, run_small}
+use Rattle.demands.proofs.Listed.{decides_list}
 use Rattle.demands.proofs.Formed.{formed_by_the_rules, falls}
 use Rattle.demands.proofs.Demand1.{refusal_only_place}
-use Rattle.demands.proofs.Sheets.{sheet-says}
-use Rattle.demands.proofs.Planned.{plan-in-rows, run-accepted, starts-in-rows, ends-in-rows}
+use Rattle.demands.proofs.Sheets.{sheet_says}
+use Rattle.demands.proofs.Planned.{plan_in_rows, run_accepted, starts_in_rows, ends_in_rows}
 
 -- The refusals.
 module _ (r : Run) (froms tos : List ℕ) (row : List ℤ) where
@@ -69,13 +69,13 @@ module _ (r : Run) (froms tos : List ℕ) (row : List ℤ) where
   unfolding figures_verdict
   buys_finds =
       let short = refuse_if (ltb (length row) (length (list_of froms tos))) ShortRow in
-      run-finds r (BuysApplies r froms tos row) (λ k p. BuysApplies.run) buys_of_run (BadEntry ∷ ShortRow ∷ []) (list_verdict (stops_of r) froms tos ∷ short ∷ [])
-      (λ a. finds-first (BuysApplies r froms tos row) (short ∷ []) refl
-      (decides_reworded (λ p. BuysApplies.bad_list) buys_list (decides-list r (accepted_run r a) froms tos (sym (accepted_run r a).wants.equal)))
-      (λ b. finds-first (BuysApplies r froms tos row) {v = short} [] refl
+      run_finds r (BuysApplies r froms tos row) (λ k p. BuysApplies.run) buys_of_run (BadEntry ∷ ShortRow ∷ []) (list_verdict (stops_of r) froms tos ∷ short ∷ [])
+      (λ a. finds_first (BuysApplies r froms tos row) (short ∷ []) refl
+      (decides_reworded (λ p. BuysApplies.bad_list) buys_list (decides_list r (accepted_run r a) froms tos (sym (accepted_run r a).wants.equal)))
+      (λ b. finds_first (BuysApplies r froms tos row) {v = short} [] refl
       (decides_reworded (λ p h. rw h.0 (BuysApplies.Short-row h.1)) buys_row_here
       (rw (entries b) (decides_if (ltb (length row) (length froms)) ShortRow (tells_below (length row) (length froms)))))
-      (λ c. finds-none (BuysApplies r froms tos row))))
+      (λ c. finds_none (BuysApplies r froms tos row))))
 
   buys_says : (b : Bool) → refuses (figures_verdict r froms tos row) ≡ b → ByTheTable (BuysApplies r froms tos row) price_order row (figures_answer r froms tos row) (figures_row r froms tos row)
   unfolding figures_answer figures_row priced_answer figures_verdict
@@ -87,12 +87,12 @@ figures_answer_lem r froms tos row answer out says fills = rw (says, fills) (buy
 
 pub figures_refused_iff : FiguresAnswerIff
 figures_refused_iff r froms tos row answer says =
-    refused-iff (BuysApplies r froms tos row) (figures_answer_lem r froms tos row answer (figures_row r froms tos row) says refl).first (refl, (refl, (refl, (refl, (refl, (refl, (refl, (refl, (refl, tt)))))))))
+    refused_iff (BuysApplies r froms tos row) (figures_answer_lem r froms tos row answer (figures_row r froms tos row) says refl).first (refl, (refl, (refl, (refl, (refl, (refl, (refl, (refl, (refl, tt)))))))))
 
 -- The figure sheet.
 pub demand1_figure_sheet : Demand1FigureSheet
 unfolding figure_sheet_verdict
-demand1_figure_sheet name r froms tos row answer out says fills = rw (says, fills) (sheet-says name r froms tos (figure_text name r froms tos) row)
+demand1_figure_sheet name r froms tos row answer out says fills = rw (says, fills) (sheet_says name r froms tos (figure_text name r froms tos) row)
 
 pub figures_one : FiguresOne
 figures_one r froms tos row answer answer' out out' fits fits' = (fits.0 ∙ sym fits'.0, fits.1 ∙ sym fits'.1)
@@ -235,7 +235,7 @@ less_without sum list i l apart smallest first =
     by_cases (dec_lt (sum list) (sum (without i list))) (λ h. h)
     (λ n. absurd
     (⊎_elim
-    (λ same. omega (arith, ap length same, without-length i list l))
+    (λ same. omega (arith, ap length same, without_length i list l))
     (not_first list i apart)
     (first (omega (arith, n, smallest)))))
 
@@ -263,7 +263,7 @@ module _ (r : Run) (list : List Detour) (accepts : refuses (judge_of r) ≡ fals
   plan_pays : PlanPays (priced_answer r list) (figures_answer r (map (λ d. d.from) list) (map (λ d. d.to) list) row) (figures_row r (map (λ d. d.from) list) (map (λ d. d.to) list) row)
   unfolding priced_answer
   plan_pays =
-      let so = figured-so r (map (λ d. d.from) list) (map (λ d. d.to) list) row rows_priceable (omega (arith, length-map list (λ d. d.from), fits)) _ refl in
+      let so = figured_so r (map (λ d. d.from) list) (map (λ d. d.to) list) row rows_priceable (omega (arith, length-map list (λ d. d.from), fits)) _ refl in
       let at : (i : ℕ) → i < length list → get_or (figures_row r (map (λ d. d.from) list) (map (λ d. d.to) list) row) i (pos 0) ≡ figure_of r list i =
       λ i l. rw (← so.1) (figure_in r (map (λ d. d.from) list) (map (λ d. d.to) list) rows_priceable _ i (omega (arith, length-map list (λ d. d.from))) ∙ ap (λ l. figure_of r l i) (list_of_halves list)) in
       record {
@@ -274,7 +274,7 @@ module _ (r : Run) (list : List Detour) (accepts : refuses (judge_of r) ≡ fals
 
   plan_so : (planned : Answer) → planned ≡ priced_answer r list → (starts ends : List ℕ) → starts ≡ map (λ d. d.from) list → ends ≡ map (λ d. d.to) list
       → (answer : Answer) → answer ≡ figures_answer r starts ends row → (out : List ℤ) → out ≡ figures_row r starts ends row → PlanPays planned answer out
-  plan_so planned is starts ends starts-are ends-are answer says out fills = rw (says, fills, starts-are, ends-are, is) plan_pays
+  plan_so planned is starts ends starts_are ends_are answer says out fills = rw (says, fills, starts_are, ends_are, is) plan_pays
 
 long_enough : (r : Run) (list : List Detour) (planned : Answer) (row : List ℤ) → planned ≡ priced_answer r list → planned.detours ≤ length row → length list ≤ length row
 unfolding priced_answer
@@ -282,10 +282,10 @@ long_enough r list planned row says fits = rw says at fits
 
 pub plans_pay : PlansPay
 plans_pay r before planned after plans accepts row fits answer says out fills =
-    let plan = plan-in-rows r before planned after plans accepts in
-    plan_so r plan.list (run-accepted r before planned after plans accepts) plan.least row (long_enough r plan.list planned row plan.says fits)
+    let plan = plan_in_rows r before planned after plans accepts in
+    plan_so r plan.list (run_accepted r before planned after plans accepts) plan.least row (long_enough r plan.list planned row plan.says fits)
     planned plan.says _ _
-    (starts-in-rows r plan.list before planned after plan.says plan.rows) (ends-in-rows r plan.list before planned after plan.says plan.rows)
+    (starts_in_rows r plan.list before planned after plan.says plan.rows) (ends_in_rows r plan.list before planned after plan.says plan.rows)
     answer says out fills
 
 -- The worked figures, by evaluation.

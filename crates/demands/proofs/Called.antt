@@ -22,7 +22,7 @@ use Rattle.planner.specs.Rows.{Rows}
 use Rattle.boundary.specs.Boundary.{short_sums, sums_with, bad_rule, price_call, price_reads, price_sums, plan_call, PlanCalled, CallPlanned}
 use Rattle.boundary.proofs.Calls.{code_accepts}
 use Rattle.demands.specs.Calls.{in_sums, PlanCallWalks, Demand2PriceCall, Demand2PlanCall, Demand3PlanCall}
-use Rattle.demands.proofs.Demand2.{price-of-list, demand2_walk, demand2_least}
+use Rattle.demands.proofs.Demand2.{price_of_list, demand2_walk, demand2_least}
 use Rattle.demands.proofs.Demand3.{demand3}
 
 -- The row of sums holds the numbers of an accepted answer.
@@ -42,7 +42,7 @@ demand2_price_call r froms tos rows sums code rowsOut sumsOut called zero-code =
     let fills : sumsOut ≡ sums_with (priced_answer r (list_of froms tos)) sums = rw e at called.sums_are in
     record {
       four = rw fills (omega arith);
-      price = rw fills (price-of-list r froms tos rows passes _ rowsOut refl (rw e at called.reads_are));
+      price = rw fills (price_of_list r froms tos rows passes _ rowsOut refl (rw e at called.reads_are));
     }
 
 -- A call of the planner that gives back 0: what it leaves is an answer of the planner.

@@ -26,10 +26,10 @@ use Rattle.demands.specs.Judged.{run_order}
 use Rattle.demands.specs.Demand1.{PriceApplies, PlanApplies, price_order}
 use Rattle.demands.specs.Calls.{PriceCallApplies, PlanCallApplies, plan_call_order, PlanCallAnswers, Demand1PriceCall, Demand1PlanCall, RefusedForItsRule}
 use Rattle.demands.proofs.Tests.{tells_equal, tells_below, tells_not, tells_either}
-use Rattle.demands.proofs.Checks.{decides_if, decides_reworded, Finds, finds-none, finds-first, first_of_joined, AllOfRun, behind-front, past-front, some_reworded}
-use Rattle.demands.proofs.Judged.{run-finds, run_small, none-of-run, some-of-run}
-use Rattle.demands.proofs.Listed.{decides-list}
-use Rattle.demands.proofs.Demand1.{tells_reads, price-of-run, price-list, ReadsShort, short_reads, reads_short, plan-of-run, IsShort, short_row, row_short, short_room, room-short, tells-short}
+use Rattle.demands.proofs.Checks.{decides_if, decides_reworded, Finds, finds_none, finds_first, first_of_joined, AllOfRun, behind_front, past_front, some_reworded}
+use Rattle.demands.proofs.Judged.{run_finds, run_small, none_of_run, some_of_run}
+use Rattle.demands.proofs.Listed.{decides_list}
+use Rattle.demands.proofs.Demand1.{tells_reads, price_of_run, price_list, ReadsShort, short_reads, reads_short, plan_of_run, IsShort, short_row, row_short, short_room, room_short, tells_short}
 
 -- Two checks for 8, one after the other, are one check.
 pub one_check : (a b : Bool) → first_of (refuse_if a ShortRow ∷ refuse_if b ShortRow ∷ []) ≡ first_of (refuse_if (a || b) ShortRow ∷ [])
@@ -42,11 +42,11 @@ module _ (r : Run) (froms tos : List ℕ) (rows : ReadRows) (sums : List ℕ) wh
   AtPrice = PriceCallApplies r froms tos rows sums
 
   price_call_run : (k : Refusal) (p : ℕ) → number_of k ≤ 7 → AtPrice k p → RunApplies r k p
-  price_call_run k p l (PriceCallApplies.price h) = price-of-run r froms tos rows k p l h
+  price_call_run k p l (PriceCallApplies.price h) = price_of_run r froms tos rows k p l h
   price_call_run k p l (PriceCallApplies.short_sums h) = absurd (omega arith)
 
   price_call_list : (p : ℕ) → AtPrice BadEntry p → ListIsBad r froms tos p
-  price_call_list p (PriceCallApplies.price h) = price-list r froms tos rows p h
+  price_call_list p (PriceCallApplies.price h) = price_list r froms tos rows p h
 
   abbrev EitherShort : Type 0
   EitherShort = ReadsShort r froms tos rows ⊎ (length sums < 4)
@@ -67,14 +67,14 @@ module _ (r : Run) (froms tos : List ℕ) (rows : ReadRows) (sums : List ℕ) wh
       let four = refuse_if (short_sums sums) ShortRow in
       rw
       (first_of_joined (judge_of r ∷ list ∷ row ∷ []) (four ∷ []))
-      (run-finds r AtPrice (λ k p h. PriceCallApplies.price (PriceApplies.run h)) price_call_run (BadEntry ∷ ShortRow ∷ []) (list ∷ row ∷ four ∷ [])
-      (λ e. finds-first AtPrice (row ∷ four ∷ []) refl
-      (decides_reworded (λ p h. PriceCallApplies.price (PriceApplies.bad_list h)) price_call_list (decides-list r (accepted_run r e) froms tos (sym (accepted_run r e).wants.equal)))
+      (run_finds r AtPrice (λ k p h. PriceCallApplies.price (PriceApplies.run h)) price_call_run (BadEntry ∷ ShortRow ∷ []) (list ∷ row ∷ four ∷ [])
+      (λ e. finds_first AtPrice (row ∷ four ∷ []) refl
+      (decides_reworded (λ p h. PriceCallApplies.price (PriceApplies.bad_list h)) price_call_list (decides_list r (accepted_run r e) froms tos (sym (accepted_run r e).wants.equal)))
       (λ b. rw (one_check a (short_sums sums))
-      (finds-first AtPrice [] refl
+      (finds_first AtPrice [] refl
       (decides_reworded short_price_call price_call_short
       (decides_if _ ShortRow (tells_either a (short_sums sums) (tells_reads (length r.numbers) rows) (tells_below (length sums) 4))))
-      (λ c. finds-none AtPrice)))))
+      (λ c. finds_none AtPrice)))))
 
   price_call_accepted : refuses (price_call r froms tos rows sums) ≡ false → price_call r froms tos rows sums ≡ accepted
   unfolding price_call
@@ -104,7 +104,7 @@ module _ (r : Run) (rule : ℕ) (rows : Rows) (sums : List ℕ) where
   AtPlan = PlanCallApplies r rule rows sums
 
   plan_call_run : (k : Refusal) (p : ℕ) → number_of k ≤ 7 → AtPlan k p → RunApplies r k p
-  plan_call_run k p l (PlanCallApplies.plan h) = plan-of-run r rows k p l h
+  plan_call_run k p l (PlanCallApplies.plan h) = plan_of_run r rows k p l h
   plan_call_run k p l (PlanCallApplies.bad_rule h) = absurd (omega arith)
   plan_call_run k p l (PlanCallApplies.short_sums h) = absurd (omega arith)
 
@@ -121,7 +121,7 @@ module _ (r : Run) (rule : ℕ) (rows : Rows) (sums : List ℕ) where
     plan_call_short p (PlanCallApplies.short_sums h) = (refl, inr h)
 
     plan_call_room : (p : ℕ) → AtPlan ShortRoom p → (p ≡ 0) × (length rows.room < room_for r)
-    plan_call_room p (PlanCallApplies.plan h) = room-short r rows good p h
+    plan_call_room p (PlanCallApplies.plan h) = room_short r rows good p h
 
   plan_call_finds : Finds AtPlan plan_call_order (plan_call r rule rows sums)
   unfolding plan_call
@@ -129,16 +129,16 @@ module _ (r : Run) (rule : ℕ) (rows : Rows) (sums : List ℕ) where
       let rows_short = short_rows (length r.numbers) (length (stops_of r)) rows in
       let short = refuse_if (rows_short || short_sums sums) ShortRow in
       let room = refuse_if (ltb (length rows.room) (room_for r)) ShortRoom in
-      run-finds r AtPlan (λ k p h. PlanCallApplies.plan (PlanApplies.run h)) plan_call_run (BadRule ∷ ShortRow ∷ ShortRoom ∷ []) (refuse_if (bad_rule rule) BadRule ∷ short ∷ room ∷ [])
-      (λ a. finds-first AtPlan (short ∷ room ∷ []) refl
+      run_finds r AtPlan (λ k p h. PlanCallApplies.plan (PlanApplies.run h)) plan_call_run (BadRule ∷ ShortRow ∷ ShortRoom ∷ []) (refuse_if (bad_rule rule) BadRule ∷ short ∷ room ∷ [])
+      (λ a. finds_first AtPlan (short ∷ room ∷ []) refl
       (decides_reworded (λ p h. rw h.0 (PlanCallApplies.bad_rule h.1)) plan_call_rule
       (decides_if (bad_rule rule) BadRule (tells_not (eqb rule least_rule) (tells_equal rule least_rule))))
-      (λ b. finds-first AtPlan (room ∷ []) refl
+      (λ b. finds_first AtPlan (room ∷ []) refl
       (decides_reworded (short_plan_call (accepted_run r a)) (plan_call_short (accepted_run r a))
-      (decides_if (rows_short || short_sums sums) ShortRow (tells_either rows_short (short_sums sums) (tells-short r rows) (tells_below (length sums) 4))))
-      (λ c. finds-first AtPlan [] refl
+      (decides_if (rows_short || short_sums sums) ShortRow (tells_either rows_short (short_sums sums) (tells_short r rows) (tells_below (length sums) 4))))
+      (λ c. finds_first AtPlan [] refl
       (decides_reworded (λ p h. PlanCallApplies.plan (short_room r rows (accepted_run r a) p h)) (plan_call_room (accepted_run r a)) (decides_if _ ShortRoom (tells_below (length rows.room) (room_for r))))
-      (λ d. finds-none AtPlan))))
+      (λ d. finds_none AtPlan))))
 
   plan_call_accepted : refuses (plan_call r rule rows sums) ≡ false → plan_call r rule rows sums ≡ accepted
   unfolding plan_call
@@ -189,13 +189,13 @@ refused_for_its_rule r rule before sums code after out called =
     let at = AtPlan r rule before sums in (
       λ e.
           let fourteen : number_of answers.kind ≡ 14 = omega (arith, e, answers.says, number_small answers.kind) in
-          let behind = behind-front at run_order run_first (omega (arith, fourteen)) answers.first in
+          let behind = behind_front at run_order run_first (omega (arith, fourteen)) answers.first in
           record {
-            good_run = λ k p h. behind.0 (some_reworded (RunApplies r) at run_order run_first (λ k p l h. PlanCallApplies.plan (PlanApplies.run h)) (some-of-run r k p h));
+            good_run = λ k p h. behind.0 (some_reworded (RunApplies r) at run_order run_first (λ k p l h. PlanCallApplies.plan (PlanApplies.run h)) (some_of_run r k p h));
             bad_rule = rule_is_bad r rule before sums behind.1 fourteen;
           },
       λ alone.
           answers.says
           ∙ rule_is_told r rule before sums alone.bad_rule
-          (past-front at run_order (λ s. none-of-run r run_order alone.good_run (some_reworded at (RunApplies r) run_order run_first (plan_call_run r rule before sums) s)) answers.first),
+          (past_front at run_order (λ s. none_of_run r run_order alone.good_run (some_reworded at (RunApplies r) run_order run_first (plan_call_run r rule before sums) s)) answers.first),
     )

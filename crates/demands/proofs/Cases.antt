@@ -19,7 +19,7 @@ use Rattle.least.specs.Least.{LeastForRun}
 use Rattle.least.specs.Recurrence.{plan_detours, W, lowest, scan, filledTo, filled, candidate, next, value, choice, built, nextPlan, best, least_list}
 use Rattle.least.proofs.LeastList.{least_list_lem, least_unique}
 use Rattle.demands.specs.Cases.{Case, CaseHolds, AllHold, cases, CasesHold}
-use Rattle.demands.proofs.Judged.{judged-nothing}
+use Rattle.demands.proofs.Judged.{judged_nothing}
 
 -- Whether two rows, and whether two lists, are equal.
 same_row : List ℕ → List ℕ → Bool
@@ -101,7 +101,7 @@ holds_if_passes c e =
     let one = and_true_both _ _ two.0 in
     let accepted = not-true _ one.0 in
     record {
-      accepted = judged-nothing c.run accepted;
+      accepted = judged_nothing c.run accepted;
       formed = eqb-true _ _ one.1;
       sum = eqb-true _ _ two.1;
       times = same_row_lem _ _ three.1;

@@ -10,7 +10,7 @@ use Rattle.refusals.specs.declared.Refusal.{Refusal}
 use Rattle.refusals.specs.declared.Refusal.TheVariants.{Accepted}
 use Rattle.refusals.specs.declared.Verdict.{Verdict}
 use Rattle.refusals.specs.Refusals.{number_of, is_refusal, accepted, refuse_if, refuse_at, first_of, first_where}
-use Rattle.runs.proofs.Search.{first-zero}
+use Rattle.runs.proofs.Search.{first_zero}
 use Rattle.refusals.proofs.Verdicts.{refuses}
 use Rattle.demands.specs.RefusalTable.{FirstBad, FirstThatApplies, none, here, later, SomeApplies}
 use Rattle.demands.proofs.Tests.{Tells}
@@ -52,11 +52,11 @@ module _ (bad : ℕ → Bool) where
           within = found.0;
           at = refl;
           here = (each q).when_true found.1;
-          before = λ j l. (each j).when_false (first-zero bad q found.2 j l);
+          before = λ j l. (each j).when_false (first_zero bad q found.2 j l);
         }
 
     none_bad_here : first_where bad n ≡ 0 → (p : ℕ) → FirstBad Bad n p → ⊥
-    none_bad_here e p f = (each f.index).when_false (first-zero bad n e f.index f.within) f.here
+    none_bad_here e p f = (each f.index).when_false (first_zero bad n e f.index f.within) f.here
 
     pub decides_at : (kind : Refusal) → Decides kind (FirstBad Bad n) (refuse_at (first_where bad n) kind)
     decides_at kind = go (first_where bad n) refl

@@ -14,12 +14,12 @@ use Rattle.runs.specs.Judging.{right_end}
 use Rattle.runs.specs.Lists.{any_below}
 use Rattle.runs.specs.Judging.{end_before, bad_place, returns, bad_number, bad_file, bad_want}
 use Rattle.runs.proofs.Table.{ends_rise}
-use Rattle.runs.proofs.Members.{first_below, last-above, last_within_lem, member-first, same-last, same-or-apart}
-use Rattle.runs.proofs.Numbers.{same-number-first, same-first-number}
-use Rattle.runs.proofs.Stops.{right_end_none, right-end-some}
-use Rattle.runs.proofs.Judged.{GoodTable, GoodWants, wants_named, not-past-last}
+use Rattle.runs.proofs.Members.{first_below, last_above, last_within_lem, member_first, same_last, same_or_apart}
+use Rattle.runs.proofs.Numbers.{same_number_first, same_first_number}
+use Rattle.runs.proofs.Stops.{right_end_none, right_end_some}
+use Rattle.runs.proofs.Judged.{GoodTable, GoodWants, wants_named, not_past_last}
 use Rattle.demands.specs.RefusalTable.{IsFile, Together, Returns, FileIsBad, WantIsBad, WantedWith, end_of_file}
-use Rattle.demands.proofs.Tests.{Tells, tells_equal, tells_below, tells_at_most, tells_not, tells_either, tells_both, tells-some, tells_reworded, tells_regrouped}
+use Rattle.demands.proofs.Tests.{Tells, tells_equal, tells_below, tells_at_most, tells_not, tells_either, tells_both, tells_some, tells_reworded, tells_regrouped}
 
 -- 7: a file that lies together with a wanted one ends right of the head.
 pub record WantedBeyond (r : Run) : Type 0 where
@@ -45,7 +45,7 @@ module _ (r : Run) where
   abbrev GoesOn : ℕ → Type 0
   GoesOn i = (k : ℕ) × (i ≡ suc k) × (0 < get_or r.aggregates i 0) × (get_or r.aggregates k 0 ≡ get_or r.aggregates i 0)
 
-  goes_on : (i : ℕ) → Tells (goes_on r.aggregates i) (GoesOn i)
+  goes_on_lem : (i : ℕ) → Tells (goes_on r.aggregates i) (GoesOn i)
   unfolding goes_on
   goes_on_lem zero = record { when_true = λ e. absurd (true≢false (sym e)); when_false = λ e h. omega (arith, h.1) }
   goes_on_lem (suc i) =
@@ -65,7 +65,7 @@ module _ (r : Run) where
       tells_reworded there back
       (tells_both (not (eqb n 0) && not (goes_on r.aggregates i)) (any_below (λ j. eqb (get_or r.aggregates j 0) n) i)
       (tells_both (not (eqb n 0)) (not (goes_on r.aggregates i)) (tells_not (eqb n 0) (tells_equal n 0)) (tells_not (goes_on r.aggregates i) (goes_on_lem i)))
-      (tells-some (λ j. eqb (get_or r.aggregates j 0) n) (λ j. get_or r.aggregates j 0 ≡ n) (λ j. tells_equal (get_or r.aggregates j 0) n) i))
+      (tells_some (λ j. eqb (get_or r.aggregates j 0) n) (λ j. get_or r.aggregates j 0 ≡ n) (λ j. tells_equal (get_or r.aggregates j 0) n) i))
     where
       positive : (get_or r.aggregates i 0 ≡ 0 → ⊥) → 0 < get_or r.aggregates i 0
       positive h = omega arith
@@ -149,10 +149,10 @@ module _ (r : Run) where
     pub together_first : (f g : ℕ) → IsFile r f → IsFile r g → Together r f g → first_member r.aggregates (f - 1) ≡ first_member r.aggregates (g - 1)
     together_first f g a b (inl e) = rw e refl
     together_first f g a b (inr h) =
-        same-number-first r.aggregates (length r.starts) files.numbers (f - 1) (g - 1) (omega (arith, a.least, a.most)) (omega (arith, b.least, b.most)) h.0 h.1
+        same_number_first r.aggregates (length r.starts) files.numbers (f - 1) (g - 1) (omega (arith, a.least, a.most)) (omega (arith, b.least, b.most)) h.0 h.1
 
     pub first_together : (f g : ℕ) → 0 < f → 0 < g → first_member r.aggregates (f - 1) ≡ first_member r.aggregates (g - 1) → Together r f g
-    first_together f g a b e = ⊎_elim (λ h. inl (same_index f g a b h)) inr (same-first-number r.aggregates (f - 1) (g - 1) e)
+    first_together f g a b e = ⊎_elim (λ h. inl (same_index f g a b h)) inr (same_first_number r.aggregates (f - 1) (g - 1) e)
 
     -- The last file that lies together with one, and where it ends.
     pub record LastWith (n : ℕ) : Type 0 where
@@ -165,7 +165,7 @@ module _ (r : Run) where
     last_with n at =
         let up : suc (last_member r.aggregates (n - 1)) - 1 ≡ last_member r.aggregates (n - 1) = omega arith in
         let inside = last_within_lem r.aggregates (n - 1) (omega (arith, at.least, at.most, files.rows)) in
-        let member = member-first r.aggregates (n - 1) (last_member r.aggregates (n - 1)) (omega (arith, first_below r.aggregates (n - 1), last-above r.aggregates (n - 1))) (omega arith) in
+        let member = member_first r.aggregates (n - 1) (last_member r.aggregates (n - 1)) (omega (arith, first_below r.aggregates (n - 1), last_above r.aggregates (n - 1))) (omega arith) in
         record {
           which = suc (last_member r.aggregates (n - 1));
           file = record { least = omega arith; most = omega (arith, inside, files.rows) };
@@ -176,16 +176,16 @@ module _ (r : Run) where
     -- A file that lies together with another ends no further right than the last of that one's aggregate.
     pub within_extent : (f g : ℕ) → IsFile r f → IsFile r g → Together r f g → end_of_file r f ≤ end_at r.starts r.lengths (last_member r.aggregates (g - 1))
     within_extent f g a b t =
-        let same = same-last r.aggregates (f - 1) (g - 1) (together_first f g a b t) in
+        let same = same_last r.aggregates (f - 1) (g - 1) (together_first f g a b t) in
         let inside = last_within_lem r.aggregates (g - 1) (omega (arith, b.least, b.most, files.rows)) in
-        ends_rise r.starts r.lengths files.table (f - 1) (last_member r.aggregates (g - 1)) (omega (arith, same, last-above r.aggregates (f - 1))) (omega (arith, inside, files.rows))
+        ends_rise r.starts r.lengths files.table (f - 1) (last_member r.aggregates (g - 1)) (omega (arith, same, last_above r.aggregates (f - 1))) (omega (arith, inside, files.rows))
 
     last_rises : (i j : ℕ) → i ≤ j → last_member r.aggregates i ≤ last_member r.aggregates j
     last_rises i j l =
         ⊎_elim
-        (λ e. omega (arith, same-last r.aggregates i j e))
-        (λ lt. omega (arith, first_below r.aggregates j, last-above r.aggregates j))
-        (same-or-apart r.aggregates i j l)
+        (λ e. omega (arith, same_last r.aggregates i j e))
+        (λ lt. omega (arith, first_below r.aggregates j, last_above r.aggregates j))
+        (same_or_apart r.aggregates i j l)
 
     -- The rightmost wanted end is that of the last want's aggregate, and nothing that lies together with a want ends right of it.
     module _ (wants : GoodWants (length r.starts) r.numbers r.counts) where
@@ -193,14 +193,14 @@ module _ (r : Run) where
       named i l = let n = wants_named r.starts r.numbers r.counts wants i l in record { least = n.least; most = n.most }
 
       right_is : 0 < length r.numbers → end_at r.starts r.lengths (last_member r.aggregates (get_or r.numbers (length r.numbers - 1) 0 - 1)) ≡ right_end (stops_of r)
-      right_is some = right-end-some r.starts r.lengths r.aggregates r.numbers r.counts (λ e. omega arith) (sym wants.equal)
+      right_is some = right_end_some r.starts r.lengths r.aggregates r.numbers r.counts (λ e. omega arith) (sym wants.equal)
 
       within_right_end : (f : ℕ) → IsFile r f → WantedWith r f → end_of_file r f ≤ right_end (stops_of r)
       within_right_end f a w =
           let here = named w.want w.within in
           let last = named (length r.numbers - 1) (omega (arith, w.within)) in
           let rise = last_rises (get_or r.numbers w.want 0 - 1) (get_or r.numbers (length r.numbers - 1) 0 - 1)
-          (omega (arith, not-past-last (length r.starts) r.numbers r.counts wants w.want w.within)) in
+          (omega (arith, not_past_last (length r.starts) r.numbers r.counts wants w.want w.within)) in
           let inside = last_within_lem r.aggregates (get_or r.numbers (length r.numbers - 1) 0 - 1) (omega (arith, last.least, last.most, files.rows)) in
           omega (
             arith,

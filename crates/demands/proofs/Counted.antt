@@ -11,10 +11,10 @@ use Rattle.runs.specs.Run.{Run, Stop, first_member, first_file, stop_of, want_st
 use Rattle.runs.specs.Lists.{leftmost}
 use Rattle.runs.proofs.Members.{between_first}
 use Rattle.runs.proofs.Joined.{by_name, join_none, join_same, join_other, leftmost_joined, some_joined}
-use Rattle.runs.proofs.Judged.{GoodRun, numbers-rise}
-use Rattle.runs.proofs.Stops.{first_file_lem, wants-length, wants-drop}
+use Rattle.runs.proofs.Judged.{GoodRun, numbers_rise}
+use Rattle.runs.proofs.Stops.{first_file_lem, wants_length, wants_drop}
 use Rattle.demands.specs.RefusalTable.{Together, JoinsLater, StopsFrom, behind, one_more, as_many, HasStops}
-use Rattle.demands.proofs.Conditions.{together-first, first-together, named}
+use Rattle.demands.proofs.Conditions.{together_first, first_together, named}
 
 -- A stop before others adds one to them, unless it has the name of the first.
 join_adds : (s : Stop) (ts : List Stop) → (0 < length ts → s.file ≡ leftmost ts → ⊥) → length (join_to s ts) ≡ suc (length ts)
@@ -42,11 +42,11 @@ module _ (r : Run) (good : GoodRun r) where
   abbrev pub Here : ℕ → Stop
   Here i = stop_of r.starts r.lengths r.aggregates (get_or r.numbers i 0) (get_or r.counts i 0)
 
-  pub wants_at_here : (i : ℕ) → i < length r.numbers → drop i (want_stops_of r) ≡ Here i ∷ drop (suc i) (want_stops_of r)
-  wants_at_here i l = wants-drop r.starts r.lengths r.aggregates r.numbers r.counts (sym good.wants.equal) i l
+  pub wants_at_lem : (i : ℕ) → i < length r.numbers → drop i (want_stops_of r) ≡ Here i ∷ drop (suc i) (want_stops_of r)
+  wants_at_lem i l = wants_drop r.starts r.lengths r.aggregates r.numbers r.counts (sym good.wants.equal) i l
 
   pub wants_end : drop (length r.numbers) (want_stops_of r) ≡ []
-  wants_end = ap (λ n. drop n (want_stops_of r)) (sym (wants-length r.starts r.lengths r.aggregates r.numbers r.counts (sym good.wants.equal))) ∙ drop-length (want_stops_of r)
+  wants_end = ap (λ n. drop n (want_stops_of r)) (sym (wants_length r.starts r.lengths r.aggregates r.numbers r.counts (sym good.wants.equal))) ∙ drop-length (want_stops_of r)
 
   -- The names of two wants' stops are the same just where the wants lie together.
   name_of : (i : ℕ) → i < length r.numbers → first_file r.aggregates (get_or r.numbers i 0) ≡ suc (first_member r.aggregates (get_or r.numbers i 0 - 1))
@@ -56,7 +56,7 @@ module _ (r : Run) (good : GoodRun r) where
       → first_file r.aggregates (get_or r.numbers i 0) ≡ first_file r.aggregates (get_or r.numbers j 0)
       → Together r (get_or r.numbers i 0) (get_or r.numbers j 0)
   names_together i j a b e =
-      first-together r good.files (get_or r.numbers i 0) (get_or r.numbers j 0) (named r good.files good.wants i a).least (named r good.files good.wants j b).least (omega (arith, name_of i a, name_of j b))
+      first_together r good.files (get_or r.numbers i 0) (get_or r.numbers j 0) (named r good.files good.wants i a).least (named r good.files good.wants j b).least (omega (arith, name_of i a, name_of j b))
 
   -- A want that lies together with a later one lies together with the next.
   together_next : (i j : ℕ) → i < j → j < length r.numbers → Together r (get_or r.numbers i 0) (get_or r.numbers j 0)
@@ -64,8 +64,8 @@ module _ (r : Run) (good : GoodRun r) where
   together_next i j l b t =
       let here = named r good.files good.wants i (omega arith) in
       let there = named r good.files good.wants j b in
-      let rise = numbers-rise (length r.starts) r.numbers r.counts good.wants in
-      let same = together-first r good.files (get_or r.numbers i 0) (get_or r.numbers j 0) here there t in
+      let rise = numbers_rise (length r.starts) r.numbers r.counts good.wants in
+      let same = together_first r good.files (get_or r.numbers i 0) (get_or r.numbers j 0) here there t in
       let low = rise i (suc i) (omega arith) (omega arith) in
       let high : get_or r.numbers (suc i) 0 ≤ get_or r.numbers j 0 = by_cases_le (suc i) j l (λ e. omega (arith, ap (λ n. get_or r.numbers n 0) e)) (λ m. omega (arith, rise (suc i) j m b)) in
       let between = between_first r.aggregates (get_or r.numbers i 0 - 1) (get_or r.numbers (suc i) 0 - 1) (get_or r.numbers j 0 - 1) (omega arith) (omega arith) same in
@@ -76,7 +76,7 @@ module _ (r : Run) (good : GoodRun r) where
 
   -- The stop of a want, and the first of those behind it.
   next_name : (i : ℕ) → suc i < length r.numbers → leftmost (drop (suc i) (want_stops_of r)) ≡ first_file r.aggregates (get_or r.numbers (suc i) 0)
-  next_name i l = rw (wants_at_here (suc i) l)
+  next_name i l = rw (wants_at_lem (suc i) l)
 
   some_next : (i : ℕ) → i < length r.numbers → 0 < length (drop (suc i) (want_stops_of r)) → suc i < length r.numbers
   some_next i l some = elim (dec_lt (suc i) (length r.numbers)) [ yes m ↦ m | no n ↦ absurd (none (omega arith)) ]
@@ -85,25 +85,25 @@ module _ (r : Run) (good : GoodRun r) where
       none e = omega (arith, ap length (ap (λ n. drop n (want_stops_of r)) e ∙ wants_end))
 
   next_some : (i : ℕ) → suc i < length r.numbers → 0 < length (drop (suc i) (want_stops_of r))
-  next_some i l = rw (wants_at_here (suc i) l) (omega arith)
+  next_some i l = rw (wants_at_lem (suc i) l) (omega arith)
 
   -- The count of any derivation.
-  pub count_is_here : {i n : ℕ} → StopsFrom r i n → (i ≤ length r.numbers) × (n ≡ length (joined (drop i (want_stops_of r))))
+  pub count_is_lem : {i n : ℕ} → StopsFrom r i n → (i ≤ length r.numbers) × (n ≡ length (joined (drop i (want_stops_of r))))
   unfolding joined
-  count_is_here behind = (omega arith, rw wants_end)
-  count_is_here (one_more {i} {n} apart rest) =
-      let h = count_is_here rest in
+  count_is_lem behind = (omega arith, rw wants_end)
+  count_is_lem (one_more {i} {n} apart rest) =
+      let h = count_is_lem rest in
       let l : i < length r.numbers = omega (arith, h.0) in
       let e = joined_adds (Here i) (drop (suc i) (want_stops_of r))
       (λ some same. let m = some_next i l some in apart (suc i, omega arith, m, names_together i (suc i) l m (same ∙ next_name i m))) in
-      (omega arith, rw (wants_at_here i l) (ap suc h.1 ∙ sym e))
-  count_is_here (as_many {i} {n} joins rest) =
-      let h = count_is_here rest in
+      (omega arith, rw (wants_at_lem i l) (ap suc h.1 ∙ sym e))
+  count_is_lem (as_many {i} {n} joins rest) =
+      let h = count_is_lem rest in
       let l : i < length r.numbers = omega (arith, h.0) in
       let m : suc i < length r.numbers = omega (arith, joins.1, joins.2) in
       let e = joined_keeps (Here i) (drop (suc i) (want_stops_of r))
       (next_some i m) (together_next i joins.0 joins.1 joins.2 joins.3 ∙ sym (next_name i m)) in
-      (omega arith, rw (wants_at_here i l) (h.1 ∙ sym e))
+      (omega arith, rw (wants_at_lem i l) (h.1 ∙ sym e))
 
   -- There is one.
   nothing_left : StopsFrom r (length r.numbers) (length (joined []))
@@ -133,10 +133,10 @@ module _ (r : Run) (good : GoodRun r) where
   counts_from zero i e = let same : length r.numbers ≡ i = omega arith in rw (← same, wants_end) nothing_left
   counts_from (suc m) i e =
       let l : i < length r.numbers = omega arith in
-      rw (wants_at_here i l) (counts_here i l (counts_from m (suc i) (omega arith)))
+      rw (wants_at_lem i l) (counts_here i l (counts_from m (suc i) (omega arith)))
 
   pub has_stops : HasStops r (length (stops_of r))
   has_stops = counts_from (length r.numbers) 0 (omega arith)
 
   pub stops_one : {n : ℕ} → HasStops r n → n ≡ length (stops_of r)
-  stops_one h = (count_is_here h).1
+  stops_one h = (count_is_lem h).1

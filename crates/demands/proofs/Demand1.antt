@@ -27,10 +27,10 @@ use Rattle.demands.specs.RefusalTable.{RunApplies, ListIsBad, none, here, later}
 use Rattle.demands.specs.Judged.{ListJudged}
 use Rattle.demands.specs.Demand1.{OnlyPlace, ByTheTable, PriceApplies, PlanApplies, price_order, plan_order, Demand1Price, Demand1Plan, Demand1PriceIff, Demand1PlanIff}
 use Rattle.demands.proofs.Tests.{Tells, tells_below, tells_either, tells_regrouped}
-use Rattle.demands.proofs.Checks.{Decides, refused, passed, refused-iff, decides_if, decides_reworded, Finds, finds-none, finds-first}
-use Rattle.demands.proofs.Judged.{run-finds, run_small, nothing-judged}
-use Rattle.demands.proofs.Counted.{has-stops, stops-one}
-use Rattle.demands.proofs.Listed.{decides-list}
+use Rattle.demands.proofs.Checks.{Decides, refused, passed, refused_iff, decides_if, decides_reworded, Finds, finds_none, finds_first}
+use Rattle.demands.proofs.Judged.{run_finds, run_small, nothing_judged}
+use Rattle.demands.proofs.Counted.{has_stops, stops_one}
+use Rattle.demands.proofs.Listed.{decides_list}
 
 -- A refusal's answer.
 pub refusal_only_place : (v : Verdict) → OnlyPlace (refusal_answer v)
@@ -42,10 +42,10 @@ tells_reads k rows = tells_either (ltb (length rows.times) k) (ltb (length rows.
 
 -- A list by itself.
 pub list_judged : ListJudged
-list_judged r nothing froms tos = go (decides-list r good froms tos (sym good.wants.equal))
+list_judged r nothing froms tos = go (decides_list r good froms tos (sym good.wants.equal))
   where
     good : GoodRun r
-    good = accepted_run r (nothing-judged r nothing)
+    good = accepted_run r (nothing_judged r nothing)
 
     go : Decides BadEntry (ListIsBad r froms tos) (list_verdict (stops_of r) froms tos) → Finds (λ kind. ListIsBad r froms tos) (BadEntry ∷ []) (list_verdict (stops_of r) froms tos)
     go (refused p e h) = rw e (here h)
@@ -78,12 +78,12 @@ module _ (r : Run) (froms tos : List ℕ) (rows : ReadRows) where
   unfolding price_verdict
   price_finds =
       let short = refuse_if (short_read_rows (length r.numbers) rows) ShortRow in
-      run-finds r (PriceApplies r froms tos rows) (λ k p. PriceApplies.run) price_of_run (BadEntry ∷ ShortRow ∷ []) (list_verdict (stops_of r) froms tos ∷ short ∷ [])
-      (λ a. finds-first (PriceApplies r froms tos rows) (short ∷ []) refl
-      (decides_reworded (λ p. PriceApplies.bad_list) price_list (decides-list r (accepted_run r a) froms tos (sym (accepted_run r a).wants.equal)))
-      (λ b. finds-first (PriceApplies r froms tos rows) [] refl
+      run_finds r (PriceApplies r froms tos rows) (λ k p. PriceApplies.run) price_of_run (BadEntry ∷ ShortRow ∷ []) (list_verdict (stops_of r) froms tos ∷ short ∷ [])
+      (λ a. finds_first (PriceApplies r froms tos rows) (short ∷ []) refl
+      (decides_reworded (λ p. PriceApplies.bad_list) price_list (decides_list r (accepted_run r a) froms tos (sym (accepted_run r a).wants.equal)))
+      (λ b. finds_first (PriceApplies r froms tos rows) [] refl
       (decides_reworded short_reads reads_short (decides_if _ ShortRow (tells_reads (length r.numbers) rows)))
-      (λ c. finds-none (PriceApplies r froms tos rows))))
+      (λ c. finds_none (PriceApplies r froms tos rows))))
 
   price_says : (b : Bool) → refuses (price_verdict r froms tos rows) ≡ b → ByTheTable (PriceApplies r froms tos rows) price_order rows (price_answer r froms tos rows) (price_rows r froms tos rows)
   unfolding price_answer price_rows priced_answer
@@ -95,7 +95,7 @@ demand1_price r froms tos rows answer out says fills = rw (says, fills) (price_s
 
 pub price_refused_iff : Demand1PriceIff
 price_refused_iff r froms tos rows answer says =
-    refused-iff (PriceApplies r froms tos rows) (demand1_price r froms tos rows answer (price_rows r froms tos rows) says refl).first (refl, (refl, (refl, (refl, (refl, (refl, (refl, (refl, (refl, tt)))))))))
+    refused_iff (PriceApplies r froms tos rows) (demand1_price r froms tos rows answer (price_rows r froms tos rows) says refl).first (refl, (refl, (refl, (refl, (refl, (refl, (refl, (refl, (refl, tt)))))))))
 
 -- The planner.
 module _ (r : Run) (rows : Rows) where
@@ -116,22 +116,22 @@ module _ (r : Run) (rows : Rows) where
     short_row p h =
         rw h.0
         (⊎_elim (⊎_elim PlanApplies.short_times PlanApplies.short_legs)
-        (⊎_elim (PlanApplies.short_starts (has-stops r good)) (PlanApplies.short_ends (has-stops r good)))
+        (⊎_elim (PlanApplies.short_starts (has_stops r good)) (PlanApplies.short_ends (has_stops r good)))
         h.1)
 
-    pub row_short_here : (p : ℕ) → PlanApplies r rows ShortRow p → (p ≡ 0) × IsShort
-    row_short_here p (PlanApplies.run h) = absurd (omega (arith, run_small r h))
-    row_short_here p (PlanApplies.short_times h) = (refl, inl (inl h))
-    row_short_here p (PlanApplies.short_legs h) = (refl, inl (inr h))
-    row_short_here p (PlanApplies.short_starts s h) = (refl, inr (inl (rw (stops-one r good s) at h)))
-    row_short_here p (PlanApplies.short_ends s h) = (refl, inr (inr (rw (stops-one r good s) at h)))
+    pub row_short : (p : ℕ) → PlanApplies r rows ShortRow p → (p ≡ 0) × IsShort
+    row_short p (PlanApplies.run h) = absurd (omega (arith, run_small r h))
+    row_short p (PlanApplies.short_times h) = (refl, inl (inl h))
+    row_short p (PlanApplies.short_legs h) = (refl, inl (inr h))
+    row_short p (PlanApplies.short_starts s h) = (refl, inr (inl (rw (stops_one r good s) at h)))
+    row_short p (PlanApplies.short_ends s h) = (refl, inr (inr (rw (stops_one r good s) at h)))
 
     pub short_room : (p : ℕ) → (p ≡ 0) × (length rows.room < room_for r) → PlanApplies r rows ShortRoom p
-    short_room p h = rw h.0 (PlanApplies.short_room (has-stops r good) h.1)
+    short_room p h = rw h.0 (PlanApplies.short_room (has_stops r good) h.1)
 
     pub room_short : (p : ℕ) → PlanApplies r rows ShortRoom p → (p ≡ 0) × (length rows.room < room_for r)
     room_short p (PlanApplies.run h) = absurd (omega (arith, run_small r h))
-    room_short p (PlanApplies.short_room s h) = (refl, rw (stops-one r good s) at h)
+    room_short p (PlanApplies.short_room s h) = (refl, rw (stops_one r good s) at h)
 
   pub tells_short : Tells (short_rows (length r.numbers) (length (stops_of r)) rows) IsShort
   tells_short =
@@ -150,11 +150,11 @@ module _ (r : Run) (rows : Rows) where
   plan_finds =
       let short = short_rows (length r.numbers) (length (stops_of r)) rows in
       let room = refuse_if (ltb (length rows.room) (room_for r)) ShortRoom in
-      run-finds r (PlanApplies r rows) (λ k p. PlanApplies.run) plan_of_run (ShortRow ∷ ShortRoom ∷ []) (refuse_if short ShortRow ∷ room ∷ [])
-      (λ a. finds-first (PlanApplies r rows) (room ∷ []) refl (decides_reworded (short_row (accepted_run r a)) (row_short_here (accepted_run r a)) (decides_if short ShortRow tells_short))
-      (λ b. finds-first (PlanApplies r rows) [] refl
+      run_finds r (PlanApplies r rows) (λ k p. PlanApplies.run) plan_of_run (ShortRow ∷ ShortRoom ∷ []) (refuse_if short ShortRow ∷ room ∷ [])
+      (λ a. finds_first (PlanApplies r rows) (room ∷ []) refl (decides_reworded (short_row (accepted_run r a)) (row_short (accepted_run r a)) (decides_if short ShortRow tells_short))
+      (λ b. finds_first (PlanApplies r rows) [] refl
       (decides_reworded (short_room (accepted_run r a)) (room_short (accepted_run r a)) (decides_if _ ShortRoom (tells_below (length rows.room) (room_for r))))
-      (λ c. finds-none (PlanApplies r rows))))
+      (λ c. finds_none (PlanApplies r rows))))
 
   plan_accepted : refuses (plan_verdict r rows) ≡ false → plan_verdict r rows ≡ accepted
   unfolding plan_verdict
@@ -176,4 +176,4 @@ demand1_plan r before answer after plans = plan_says r before answer after plans
 
 pub plan_refused_iff : Demand1PlanIff
 plan_refused_iff r before answer after plans =
-    refused-iff (PlanApplies r before) (demand1_plan r before answer after plans).first (refl, (refl, (refl, (refl, (refl, (refl, (refl, (refl, (refl, tt)))))))))
+    refused_iff (PlanApplies r before) (demand1_plan r before answer after plans).first (refl, (refl, (refl, (refl, (refl, (refl, (refl, (refl, (refl, tt)))))))))

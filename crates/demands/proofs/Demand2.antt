@@ -20,21 +20,21 @@ use Rattle.refusals.proofs.Verdicts.{refuses, AllAccept, all_accept}
 use Rattle.runs.proofs.Judged.{GoodRun, accepted_run}
 use Rattle.runs.proofs.Search.{true_or_false}
 use Rattle.walk.proofs.Filling.{one_each}
-use Rattle.walk.proofs.Joins.{run-sum-joined}
-use Rattle.walk.proofs.Walks.{accepted_list, run-walkable}
+use Rattle.walk.proofs.Joins.{run_sum_joined}
+use Rattle.walk.proofs.Walks.{accepted_list, run_walkable}
 use Rattle.engine_stops.proofs.Halves.{list_accepted, list_of_halves, halves_even}
 use Rattle.figures.proofs.Answers.{list_formed}
-use Rattle.runs.proofs.Stops.{wants-length, run_sound}
+use Rattle.runs.proofs.Stops.{wants_length, run_sound}
 use Rattle.least.proofs.Sweeps.{all_served}
 use Rattle.least.specs.Least.{LeastFor}
 use Rattle.planner.specs.Plan.{rows_with}
 use Rattle.planner.specs.Rows.{Rows, reads_in}
-use Rattle.planner.proofs.Determined.{plan-determined}
+use Rattle.planner.proofs.Determined.{plan_determined}
 use Rattle.demands.specs.RefusalTable.{ListIsBad}
 use Rattle.demands.specs.Demand2.{IsFormed, list_in, IsWalkOf, IsTheWalk, IsPriceOf, IsLeast, Demand2Price, Demand2Walk, Demand2Least, Demand2One}
 use Rattle.demands.proofs.Checks.{Decides, refused, passed}
-use Rattle.demands.proofs.Listed.{decides-list}
-use Rattle.demands.proofs.Planned.{plan-in-rows, run-accepted, list-in-rows}
+use Rattle.demands.proofs.Listed.{decides_list}
+use Rattle.demands.proofs.Planned.{plan_in_rows, run_accepted, list_in_rows}
 
 -- In an accepted run a list is well formed if and only if 10 does not apply to it.
 module _ (r : Run) (good : GoodRun r) (list : List Detour) where
@@ -45,7 +45,7 @@ module _ (r : Run) (good : GoodRun r) (list : List Detour) where
   tos = map (λ d. d.to) list
 
   decides_ten : Decides BadEntry (ListIsBad r froms tos) (list_verdict (stops_of r) froms tos)
-  decides_ten = decides-list r good froms tos (sym good.wants.equal)
+  decides_ten = decides_list r good froms tos (sym good.wants.equal)
 
   pub formed_list : IsFormed r list → WellFormed (stops_of r) list
   formed_list n = go decides_ten
@@ -62,10 +62,10 @@ module _ (r : Run) (good : GoodRun r) (list : List Detour) where
       go (passed e none) = none
 
   -- The legs of a well-formed list are a movement.
-  pub walk_moves_here : WellFormed (stops_of r) list → Moves r.head (legs_of (stops_of r) list)
-  walk_moves_here w =
+  pub walk_moves : WellFormed (stops_of r) list → Moves r.head (legs_of (stops_of r) list)
+  walk_moves w =
       let all = list_accepted (stops_of r) froms tos (halves_even (λ d. d.from) (λ d. d.to) list) (rw (list_of_halves list) w) in
-      rw (list_of_halves list) at (run-walkable r good froms tos (accepted_list (stops_of r) froms tos all)).moves
+      rw (list_of_halves list) at (run_walkable r good froms tos (accepted_list (stops_of r) froms tos all)).moves
 
 -- The pricer's numbers, times and legs for a well-formed list, in rows that have them in front.
 priced_walk : (r : Run) (list : List Detour) (rows before : ReadRows) (answer : Answer) → answer ≡ priced_answer r list → rows ≡ read_rows_with r list before
@@ -73,23 +73,23 @@ priced_walk : (r : Run) (list : List Detour) (rows before : ReadRows) (answer : 
 unfolding priced_answer priced_times priced_legs times_of legs_for
 priced_walk r list rows before answer says fills good well formed =
     let same = sym good.wants.equal in
-    let size : (f : Stop → ℕ) → length (map f (want_stops_of r)) ≡ length r.numbers = λ f. one_each f (want_stops_of r) ∙ wants-length r.starts r.lengths r.aggregates r.numbers r.counts same in
+    let size : (f : Stop → ℕ) → length (map f (want_stops_of r)) ≡ length r.numbers = λ f. one_each f (want_stops_of r) ∙ wants_length r.starts r.lengths r.aggregates r.numbers r.counts same in
     record {
       number = rw says;
       formed = formed;
-      moves = walk_moves_here r good list well;
+      moves = walk_moves r good list well;
       serves = all_served (stops_of r) r.head (run_sound r good) list;
       times = rw fills (take_at (priced_times r list) (drop (length r.numbers) before.times) (length r.numbers) (size _));
       legs = rw fills (take_at (priced_legs r list) (drop (length r.numbers) before.legs) (length r.numbers) (size _));
       sum = rw says;
-      summed = rw says (run-sum-joined r.turn (head_at r.head) (legs_of (stops_of r) list) r);
+      summed = rw says (run_sum_joined r.turn (head_at r.head) (legs_of (stops_of r) list) r);
       finish = rw says;
       end = rw says;
     }
 
 module _ (r : Run) (list : List Detour) (before : Rows) (answer : Answer) (after : Rows) (says : answer ≡ priced_answer r list) (rows : after ≡ rows_with r list before) where
   in_rows : list_in answer after ≡ list
-  in_rows = list-in-rows r list before answer after says rows
+  in_rows = list_in_rows r list before answer after says rows
 
   walk_of_list : GoodRun r → WellFormed (stops_of r) list → IsTheWalk r answer after
   walk_of_list good well =
@@ -142,15 +142,15 @@ demand2_price r froms tos rows answer out says fills accepts =
 
 pub demand2_walk : Demand2Walk
 demand2_walk r before answer after plans accepts =
-    let plan = plan-in-rows r before answer after plans accepts in
-    let good = accepted_run r (run-accepted r before answer after plans accepts) in
+    let plan = plan_in_rows r before answer after plans accepts in
+    let good = accepted_run r (run_accepted r before answer after plans accepts) in
     walk_of_list r plan.list before answer after plan.says plan.rows good plan.least.formed
 
 pub demand2_least : Demand2Least
 demand2_least r before answer after plans accepts =
-    let plan = plan-in-rows r before answer after plans accepts in
+    let plan = plan_in_rows r before answer after plans accepts in
     least_of_list_here r plan.list before answer after plan.says plan.rows plan.least
-    (formed_list r (accepted_run r (run-accepted r before answer after plans accepts)))
+    (formed_list r (accepted_run r (run_accepted r before answer after plans accepts)))
 
 pub demand2_one : Demand2One
-demand2_one r before answer answer' after after' plans plans' = plan-determined r before answer answer' after after' plans plans'
+demand2_one r before answer answer' after after' plans plans' = plan_determined r before answer answer' after after' plans plans'

@@ -6,13 +6,13 @@ use Rattle.runs.specs.Run.{Run, stops_of}
 use Rattle.walk.specs.Detours.{legs_of}
 use Rattle.runs.proofs.Judged.{accepted_run}
 use Rattle.runs.proofs.Stops.{accepted_sound}
-use Rattle.least.proofs.Unbeaten.{SameTable, same_table, covers-of-reads, no_movement_beats}
+use Rattle.least.proofs.Unbeaten.{SameTable, same_table, covers_of_reads, no_movement_beats}
 use Rattle.least.proofs.Wanted.{reads_no_more}
 use Rattle.demands.specs.Demand2.{list_in}
 use Rattle.demands.specs.Demand3.{Demand3}
 use Rattle.demands.specs.Movements.{NoLessByFile, Demand3ByFile, Demand3Same, Demand3Attained}
-use Rattle.demands.proofs.Judged.{nothing-judged, judged-nothing}
-use Rattle.demands.proofs.Planned.{plan-in-rows, run-accepted, reported_sum}
+use Rattle.demands.proofs.Judged.{nothing_judged, judged_nothing}
+use Rattle.demands.proofs.Planned.{plan_in_rows, run_accepted, reported_sum}
 use Rattle.demands.proofs.Demand2.{demand2_walk}
 
 -- Runs over one tape table have their files at the same places.
@@ -21,21 +21,21 @@ one_table first second s l a = rw (s, l, a) (same_table second.starts second.len
 
 pub demand3 : Demand3
 demand3 first second before answer after nothing plans accepts asks gs moves serves =
-    let accepted = nothing-judged first nothing in
-    let plan = plan-in-rows second before answer after plans accepts in
-    let passes = run-accepted second before answer after plans accepts in
+    let accepted = nothing_judged first nothing in
+    let plan = plan_in_rows second before answer after plans accepts in
+    let passes = run_accepted second before answer after plans accepts in
     let sound = accepted_sound second passes in
     rw
     (reported_sum second plan.list answer plan.says)
     (no_movement_beats first.turn first.head second.turn second.head (stops_of first) (stops_of second) (accepted_sound first accepted) sound asks.head asks.turn
-    (covers-of-reads second.head (stops_of first) (stops_of second) sound asks.reads (one_table first second asks.starts asks.lengths asks.aggregates))
+    (covers_of_reads second.head (stops_of first) (stops_of second) sound asks.reads (one_table first second asks.starts asks.lengths asks.aggregates))
     gs moves serves plan.list plan.least)
 
 -- Reads counted by file.
 pub no_less_by_file : NoLessByFile
 no_less_by_file first second nothing nothing' asks =
-    let good = accepted_run first (nothing-judged first nothing) in
-    let good' = accepted_run second (nothing-judged second nothing') in
+    let good = accepted_run first (nothing_judged first nothing) in
+    let good' = accepted_run second (nothing_judged second nothing') in
     record {
       starts = asks.starts;
       lengths = asks.lengths;
@@ -47,12 +47,12 @@ no_less_by_file first second nothing nothing' asks =
 
 pub demand3_by_file : Demand3ByFile
 demand3_by_file first second before answer after nothing plans accepts asks gs moves serves =
-    let second-nothing = judged-nothing second (run-accepted second before answer after plans accepts) in
+    let second-nothing = judged_nothing second (run_accepted second before answer after plans accepts) in
     demand3 first second before answer after nothing plans accepts (no_less_by_file first second nothing second-nothing asks) gs moves serves
 
 pub demand3_same : Demand3Same
 demand3_same r before answer after plans accepts gs moves serves =
-    demand3 r r before answer after (judged-nothing r (run-accepted r before answer after plans accepts)) plans accepts
+    demand3 r r before answer after (judged_nothing r (run_accepted r before answer after plans accepts)) plans accepts
     (record { starts = refl; lengths = refl; aggregates = refl; reads = λ f. le_refl _; turn = le_refl _; head = le_refl _ })
     gs moves serves
 

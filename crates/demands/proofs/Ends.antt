@@ -20,7 +20,7 @@ use Rattle.walk.specs.AnyHead.{run_legs}
 use Rattle.refusals.proofs.Verdicts.{refuses}
 use Rattle.runs.proofs.Judged.{GoodRun, accepted_run}
 use Rattle.runs.proofs.Joined.{some_joined}
-use Rattle.runs.proofs.Stops.{wants-agree, wants-length, want_at, accepted_sound, run_sound}
+use Rattle.runs.proofs.Stops.{wants_agree, wants_length, want_at_lem, accepted_sound, run_sound}
 use Rattle.runs.proofs.AnyHead.{GoodAnyRun}
 use Rattle.walk.proofs.Joins.{time_same}
 use Rattle.least.proofs.Sweeps.{times_stay, time_by_end, LastRead, last_read}
@@ -30,13 +30,13 @@ use Rattle.planner.specs.Rows.{reads_in}
 use Rattle.demands.specs.Demand2.{list_in, IsWalkOf}
 use Rattle.demands.specs.AnyHead.{IsWalkAnyOf}
 use Rattle.demands.specs.Ends.{EndsWithARead, PriceEndsWithARead, PlanEndsWithARead, PriceAnyEndsWithARead, PlanAnyEndsWithARead, TimesStay}
-use Rattle.demands.proofs.Judged.{nothing-judged}
-use Rattle.demands.proofs.Conditions.{named, last_with, within-extent}
+use Rattle.demands.proofs.Judged.{nothing_judged}
+use Rattle.demands.proofs.Conditions.{named, last_with, within_extent}
 use Rattle.demands.proofs.Stops.{PlacedIn, joined_placed, wants_placed}
-use Rattle.demands.proofs.Planned.{run-accepted}
-use Rattle.demands.proofs.Demand2.{formed-list, demand2_price, demand2_walk, price_run_accepted}
-use Rattle.demands.proofs.AnyLifted.{ends-down}
-use Rattle.demands.proofs.AnyHead.{formed-list-any, good_run, price_any_good, demand2_price_any, demand2_walk_any}
+use Rattle.demands.proofs.Planned.{run_accepted}
+use Rattle.demands.proofs.Demand2.{formed_list, demand2_price, demand2_walk, price_run_accepted}
+use Rattle.demands.proofs.AnyLifted.{ends_down}
+use Rattle.demands.proofs.AnyHead.{formed_list_any, good_run, price_any_good, demand2_price_any, demand2_walk_any}
 
 -- A number for each stop, by index; and times that agree one by one have one row and one sum.
 pub entry_at : (f : Stop → ℕ) (ss : List Stop) (i : ℕ) → i < length ss → get_or (map f ss) i 0 ≡ f (stop_at ss i)
@@ -60,21 +60,21 @@ module _ (r : Run) (good : GoodRun r) where
   same = sym good.wants.equal
 
   pub size : length (want_stops_of r) ≡ length r.numbers
-  size = wants-length r.starts r.lengths r.aggregates r.numbers r.counts same
+  size = wants_length r.starts r.lengths r.aggregates r.numbers r.counts same
 
   pub some_stops : 0 < length r.numbers → 0 < length (stops_of r)
   some_stops some = some_joined (want_stops_of r) (omega (arith, size))
 
   -- A want's stop lies where a joined one does, and the other way round.
   pub stop_of_want : (i : ℕ) → i < length r.numbers → PlacedIn (stops_of r) (stop_at (want_stops_of r) i)
-  stop_of_want i l = wants_placed (want_stops_of r) (wants-agree r.starts r.lengths r.aggregates r.numbers r.counts) i (omega (arith, size))
+  stop_of_want i l = wants_placed (want_stops_of r) (wants_agree r.starts r.lengths r.aggregates r.numbers r.counts) i (omega (arith, size))
 
   want_of_stop : (j : ℕ) → j < length (stops_of r) → PlacedIn (want_stops_of r) (stop_at (stops_of r) j)
   want_of_stop j l = joined_placed (want_stops_of r) j l
 
 pub times_stay_put : TimesStay
 times_stay_put r nothing list =
-    let ok = nothing-judged r nothing in
+    let ok = nothing_judged r nothing in
     let good = accepted_run r ok in
     let U = r.turn in
     let h = head_at r.head in
@@ -111,7 +111,7 @@ module _ (r : Run) (good : GoodRun r) (m : ℕ) (gs : List Leg) (rows : ReadRows
       let file = named r good.files good.wants w.index l in
       let with_it = last_with r good.files (get_or r.numbers w.index 0) file in
       let ends : answer.end ≡ end_at r.starts r.lengths (last_member r.aggregates (get_or r.numbers w.index 0 - 1))
-      = ends_at ∙ last.place ∙ w.places.end ∙ ap (λ s. s.end) (want_at r.starts r.lengths r.aggregates r.numbers r.counts (same r good) w.index l) in
+      = ends_at ∙ last.place ∙ w.places.end ∙ ap (λ s. s.end) (want_at_lem r.starts r.lengths r.aggregates r.numbers r.counts (same r good) w.index l) in
       record {
         want = w.index;
         within = l;
@@ -121,7 +121,7 @@ module _ (r : Run) (good : GoodRun r) (m : ℕ) (gs : List Leg) (rows : ReadRows
         file = with_it.file;
         together = with_it.together;
         end = ends ∙ sym with_it.ends;
-        rightmost = λ f a t. rw ends (within-extent r good.files f (get_or r.numbers w.index 0) a file t);
+        rightmost = λ f a t. rw ends (within_extent r good.files f (get_or r.numbers w.index 0) a file t);
       }
 
 -- The walk of a list.
@@ -130,7 +130,7 @@ walk_ends : (r : Run) (ok : refuses (judge_of r) ≡ false) (list : List Detour)
 walk_ends r ok list rows answer walk some =
     let good = accepted_run r ok in
     ends_with_a_read r good r.head (legs_of (stops_of r) list) rows walk.times answer walk.finish walk.end
-    (last_read (stops_of r) r.head (accepted_sound r ok) (some_stops r good some) list (formed-list r good list walk.formed) r.turn)
+    (last_read (stops_of r) r.head (accepted_sound r ok) (some_stops r good some) list (formed_list r good list walk.formed) r.turn)
 
 pub price_ends_with_a_read : PriceEndsWithARead
 price_ends_with_a_read r froms tos rows answer out says fills accepts some =
@@ -138,15 +138,15 @@ price_ends_with_a_read r froms tos rows answer out says fills accepts some =
 
 pub plan_ends_with_a_read : PlanEndsWithARead
 plan_ends_with_a_read r before answer after plans accepts some =
-    walk_ends r (run-accepted r before answer after plans accepts) (list_in answer after) (reads_in after) answer (demand2_walk r before answer after plans accepts) some
+    walk_ends r (run_accepted r before answer after plans accepts) (list_in answer after) (reads_in after) answer (demand2_walk r before answer after plans accepts) some
 
 -- For a head anywhere.
 walk_any_ends : (r : Run) → GoodAnyRun r → (list : List Detour) (rows : ReadRows) (answer : Answer) → IsWalkAnyOf r list rows answer → 0 < length r.numbers
     → EndsWithARead r rows.times answer
 walk_any_ends r good list rows answer walk some =
-    ends-down r
+    ends_down r
     (ends_with_a_read (lifted r) good.run r.head (run_legs r list) rows walk.times answer walk.finish walk.end
-    (any_last_read r.head (lifted r).head (stops_of r) (run_sound (lifted r) good.run) (some_stops (lifted r) good.run some) list (formed-list-any r good list walk.formed) r.turn))
+    (any_last_read r.head (lifted r).head (stops_of r) (run_sound (lifted r) good.run) (some_stops (lifted r) good.run some) list (formed_list_any r good list walk.formed) r.turn))
 
 pub price_any_ends_with_a_read : PriceAnyEndsWithARead
 price_any_ends_with_a_read r froms tos rows answer out says fills accepts some =

@@ -12,7 +12,7 @@ use borrow.Author.Tests.{not-true, not-false}
 use Rattle.refusals.specs.declared.Refusal.TheVariants.{BadLine}
 use Rattle.refusals.specs.Refusals.{refuse_at, first_where}
 use Rattle.runs.specs.Run.{most_wants}
-use Rattle.runs.proofs.Search.{first-zero}
+use Rattle.runs.proofs.Search.{first_zero}
 use Rattle.text_bytes.specs.Text.{line_feed, is_empty, has, behind}
 use Rattle.text_lines.specs.Lines.{line_of, after_lines, line_after, is_number_line, is_pair_line, is_triple_line, first_bad_of}
 use Rattle.sheet_reader.specs.Lines.{tape_key, head_key, turn_key, rule_key, files_key, file_key, wants_key, want_key, is_tape_line, is_turn_line, is_rule_line, is_count_line}
@@ -21,7 +21,7 @@ use Rattle.demands.specs.RefusalTable.{FirstBad}
 use Rattle.demands.specs.Lines.{Stands, Name, Number, NumberOrNothing, RuleName, UpTo, Pair, Triple, LineIsBad, lines_due, LinesByTheTable}
 use Rattle.demands.proofs.Tests.{Tells}
 use Rattle.demands.proofs.Checks.{Decides, refused, passed, found_at}
-use Rattle.demands.proofs.Lines.{tells-tape, tells-turn, tells-rule, tells-number, tells-count, tells-pair-line, tells-triple-line, tells-end}
+use Rattle.demands.proofs.Lines.{tells_tape, tells_turn, tells_rule, tells_number, tells_count, tells_pair_line, tells_triple_line, tells_end}
 
 -- What a search says: the number of the first bad line, or 0; and bad lines lie in its stretch only.
 pub record Search (Bad : ℕ → Type 0) (x lo hi : ℕ) : Type 0 where
@@ -72,7 +72,7 @@ module _ (Good : ℕ → Type 0) (good : ℕ → Bool) (lo count : ℕ) (tells :
   unfolding bad
   clean n e j l h =
       let at : lo + (j - lo) ≡ j = omega arith in
-      rw at at ((tells (j - lo)).when_true (not-false (good (j - lo)) (first-zero bad n e (j - lo) (omega arith))))
+      rw at at ((tells (j - lo)).when_true (not-false (good (j - lo)) (first_zero bad n e (j - lo) (omega arith))))
 
   abbrev BadHere : ℕ → Type 0
   BadHere j = (lo ≤ j) × (j < lo + count) × (Good j → ⊥)
@@ -142,15 +142,15 @@ module _ (sheet : List ℕ) where
       let rule = is_rule_line (line_after 3 sheet) in
       let files = is_count_line files_key most_sheet_files (line_after 4 sheet) in
       joined (unless tape 1) (unless head 2 ∷ unless turn 3 ∷ unless rule 4 ∷ unless files 5 ∷ []) (omega arith) (omega arith) (omega arith)
-      (one_line (Stands tape_key Name sheet) tape 0 1 refl (tells-tape sheet 0))
+      (one_line (Stands tape_key Name sheet) tape 0 1 refl (tells_tape sheet 0))
       (joined (unless head 2) (unless turn 3 ∷ unless rule 4 ∷ unless files 5 ∷ []) (omega arith) (omega arith) (omega arith)
-      (one_line (Stands head_key Number sheet) head 1 2 refl (tells-number sheet 1 head_key (omega arith) refl))
+      (one_line (Stands head_key Number sheet) head 1 2 refl (tells_number sheet 1 head_key (omega arith) refl))
       (joined (unless turn 3) (unless rule 4 ∷ unless files 5 ∷ []) (omega arith) (omega arith) (omega arith)
-      (one_line (Stands turn_key NumberOrNothing sheet) turn 2 3 refl (tells-turn sheet 2))
+      (one_line (Stands turn_key NumberOrNothing sheet) turn 2 3 refl (tells_turn sheet 2))
       (joined (unless rule 4) (unless files 5 ∷ []) (omega arith) (omega arith) (omega arith)
-      (one_line (Stands rule_key RuleName sheet) rule 3 4 refl (tells-rule sheet 3))
+      (one_line (Stands rule_key RuleName sheet) rule 3 4 refl (tells_rule sheet 3))
       (joined (unless files 5) [] (omega arith) (omega arith) (omega arith)
-      (one_line (Stands files_key (UpTo most_sheet_files) sheet) files 4 5 refl (tells-count sheet 4 files_key (omega arith) refl most_sheet_files))
+      (one_line (Stands files_key (UpTo most_sheet_files) sheet) files 4 5 refl (tells_count sheet 4 files_key (omega arith) refl most_sheet_files))
       (ended 5)))))
 
   -- What follows the files' lines, the wants' line and the wants.
@@ -182,13 +182,13 @@ module _ (sheet : List ℕ) where
       let want = shifted (F + 6) (first_bad_of (is_pair_line want_key) W (want_text sheet)) in
       let done = is_empty (end_text sheet) in
       joined file (unless count (F + 6) ∷ want ∷ unless done (F + W + 7) ∷ []) (omega arith) (omega arith) (omega arith)
-      (lines_search (Stands file_key Triple sheet) (is_triple_line file_key) (λ i. tells-triple-line sheet i file_key (omega arith) refl) (file_text sheet) 5 5 F refl refl)
+      (lines_search (Stands file_key Triple sheet) (is_triple_line file_key) (λ i. tells_triple_line sheet i file_key (omega arith) refl) (file_text sheet) 5 5 F refl refl)
       (joined (unless count (F + 6)) (want ∷ unless done (F + W + 7) ∷ []) (omega arith) (omega arith) (omega arith)
-      (one_line (Stands wants_key (UpTo most_wants) sheet) count (5 + F) (F + 6) (omega arith) (rw wants_behind (tells-count sheet (5 + F) wants_key (omega arith) refl most_wants)))
+      (one_line (Stands wants_key (UpTo most_wants) sheet) count (5 + F) (F + 6) (omega arith) (rw wants_behind (tells_count sheet (5 + F) wants_key (omega arith) refl most_wants)))
       (joined want (unless done (F + W + 7) ∷ []) (omega arith) (omega arith) (omega arith)
-      (lines_search (Stands want_key Pair sheet) (is_pair_line want_key) (λ i. tells-pair-line sheet i want_key (omega arith) refl) (want_text sheet) (6 + F) (F + 6) W (omega arith) want_behind)
+      (lines_search (Stands want_key Pair sheet) (is_pair_line want_key) (λ i. tells_pair_line sheet i want_key (omega arith) refl) (want_text sheet) (6 + F) (F + 6) W (omega arith) want_behind)
       (joined (unless done (F + W + 7)) [] (omega arith) (omega arith) (omega arith)
-      (one_line (λ j. after_lines j sheet ≡ []) done (6 + F + W) (F + W + 7) (omega arith) (rw end_behind_here (tells-end sheet (6 + F + W))))
+      (one_line (λ j. after_lines j sheet ≡ []) done (6 + F + W) (F + W + 7) (omega arith) (rw end_behind_here (tells_end sheet (6 + F + W))))
       (ended (lines_due sheet)))))
 
   line_search : Search (λ i. TopIsBad i ⊎ (BelowIsBad i ⊎ ⊥)) (first_bad_line sheet) 0 (lines_due sheet)
@@ -235,11 +235,11 @@ module _ (sheet : List ℕ) where
         before = λ j l h. found.1 j l (in_stretch j h);
       }
 
-  pub no_bad_here : first_bad_line sheet ≡ 0 → (i : ℕ) → LineIsBad sheet i → ⊥
-  no_bad_here e i here = line_search.none e i (in_stretch i here)
+  pub no_bad : first_bad_line sheet ≡ 0 → (i : ℕ) → LineIsBad sheet i → ⊥
+  no_bad e i here = line_search.none e i (in_stretch i here)
 
   pub no_line : first_bad_line sheet ≡ 0 → (p : ℕ) → FirstBad (LineIsBad sheet) (lines_due sheet) p → ⊥
-  no_line e p f = no_bad_here e f.index f.here
+  no_line e p f = no_bad e f.index f.here
 
   pub none_found : ((p : ℕ) → FirstBad (LineIsBad sheet) (lines_due sheet) p → ⊥) → first_bad_line sheet ≡ 0
   none_found none = go (first_bad_line sheet) refl

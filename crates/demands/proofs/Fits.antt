@@ -18,8 +18,8 @@ use Rattle.planner.specs.AnyHead.{PlansAny, plan_any_verdict, rows_any_with}
 use Rattle.planner.specs.Rows.{Rows}
 use Rattle.engine_plain.specs.Plain.{PlainRows, plain_rows_with, PlainPlans, plain_verdict}
 use Rattle.demands.proofs.Planned.{verdict_accepts_run}
-use Rattle.demands.proofs.Plain.{plain-accepts-run}
-use Rattle.demands.proofs.AnyHead.{run-passed}
+use Rattle.demands.proofs.Plain.{plain_accepts_run}
+use Rattle.demands.proofs.AnyHead.{run_passed}
 use Rattle.least.specs.Recurrence.{least_list}
 
 abbrev plan_list : Run → List Detour
@@ -56,7 +56,7 @@ plans_any_for_every_input r before =
       planned = λ e.
           record {
             list = plan_any_list r;
-            least = least_any r.turn r.head (lifted r).head (stops_of r) (run_sound (lifted r) (accepted_any r (run-passed r before e)).run);
+            least = least_any r.turn r.head (lifted r).head (stops_of r) (run_sound (lifted r) (accepted_any r (run_passed r before e)).run);
             says = rw e;
             rows = rw e;
           };
@@ -73,5 +73,5 @@ unfolding plain_answer plain_after
 plain_for_every_input r before =
     record {
       refused = λ e. record { says = rw e; kept = rw e };
-      planned = λ e. record { list = plan_list r; least = least_list_lem r.turn r.head (stops_of r) (accepted_sound r (plain-accepts-run r before e)); says = rw e; rows = rw e };
+      planned = λ e. record { list = plan_list r; least = least_list_lem r.turn r.head (stops_of r) (accepted_sound r (plain_accepts_run r before e)); says = rw e; rows = rw e };
     }

@@ -2,7 +2,7 @@
 -- over any distance.
 use Prim.Native.Nat.{ℕ, zero, suc, ◌<◌}
 use mathlib.Core.Path.{◌≡◌, refl, sym}
-use mathlib.Core.Bool.{Bool, true, false, not, ◌||◌, or_true, true≢false}
+use mathlib.Core.Bool.{Bool, true, false, not, ◌||◌, or-true, true≢false}
 use mathlib.Core.Logic.{◌⊎◌, inl, inr, by_cases}
 use mathlib.Core.List.{List, [], ◌∷◌}
 use native.Mathlib.Omega.{arith}
@@ -13,7 +13,7 @@ use borrow.Author.Tests.{eqb-true, eq-eqb, ltb-true, ltb-false, leb-false, lt-le
 use Rattle.runs.specs.Run.{Stop}
 use Rattle.runs.specs.Rows.{stop_at}
 use Rattle.runs.specs.Lists.{Detour, wanted, leftmost, bad_alone, bad_after, any_below, entry_of, bad_entry, first_bad_entry, WellFormed}
-use Rattle.runs.proofs.Search.{or_false_both, first-zero, first_all, any-zero}
+use Rattle.runs.proofs.Search.{or_false_both, first_zero, first_all, any_zero}
 use Rattle.demands.specs.Formed.{IsStop, IsDetour, ObeysTheRules, FormedByTheRules}
 
 -- A file is wanted where a stop has its number, and only there.
@@ -24,7 +24,7 @@ stop_wanted stops f s = at stops s.0 s.1 s.2
     at : (stops : List Stop) (i : ℕ) → i < length stops → (stop_at stops i).file ≡ f → wanted stops f ≡ true
     at [] i l e = absurd (omega arith)
     at (s ∷ ss) zero l e = rw (eq-eqb s.file f e)
-    at (s ∷ ss) (suc i) l e = rw (at ss i (omega arith) e, or_true)
+    at (s ∷ ss) (suc i) l e = rw (at ss i (omega arith) e, or-true)
 
 wanted_stop : (stops : List Stop) (f : ℕ) → wanted stops f ≡ true → IsStop stops f
 unfolding wanted
@@ -73,7 +73,7 @@ good_after e d h =
 
 after_good : (e d : Detour) → d.from < e.from → (d.to < e.from) ⊎ (e.to < d.to) → bad_after e d ≡ false
 after_good e d l (inl h) = rw (lt-leb e.from d.from l, lt-ltb d.to e.from h)
-after_good e d l (inr h) = rw (lt-leb e.from d.from l, lt-ltb e.to d.to h, or_true)
+after_good e d l (inr h) = rw (lt-leb e.from d.from l, lt-ltb e.to d.to h, or-true)
 
 any_all : (test : ℕ → Bool) (n : ℕ) → ((j : ℕ) → j < n → test j ≡ false) → any_below test n ≡ false
 unfolding any_below
@@ -90,11 +90,11 @@ module _ (stops : List Stop) (list : List Detour) where
   }
     where
       passes : (i : ℕ) → i < length list → (bad_alone stops (entry_of list i) ≡ false) × (any_below (λ j. bad_after (entry_of list j) (entry_of list i)) i ≡ false)
-      passes i l = or_false_both _ _ (first-zero (bad_entry stops list) (length list) formed i l)
+      passes i l = or_false_both _ _ (first_zero (bad_entry stops list) (length list) formed i l)
 
       against : (i : ℕ) → i < length list → (j : ℕ) → j < i
           → ((entry_of list i).from < (entry_of list j).from) × (((entry_of list i).to < (entry_of list j).from) ⊎ ((entry_of list j).to < (entry_of list i).to))
-      against i l j h = good_after (entry_of list j) (entry_of list i) (any-zero _ i (passes i l).1 j h)
+      against i l j h = good_after (entry_of list j) (entry_of list i) (any_zero _ i (passes i l).1 j h)
 
       not_left : (i j : ℕ) → j < length list → (entry_of list i).from < (entry_of list j).from → (j < i → ⊥) → ⊥
       not_left i j m less h = by_cases (dec_lt i j) (λ k. omega (arith, (against j m i k).0)) (λ k. let same : i ≡ j = omega arith in omega (arith, rw same at less))

@@ -25,7 +25,7 @@ use Rattle.walk.specs.Detours.{start_of, end_of, leg_of, unread_end, sweep_end, 
 use Rattle.walk.specs.Price.{refusal_answer, priced_answer, price_verdict, price_answer, price_rows}
 use Rattle.walk.specs.Rows.{ReadRows, read_rows}
 use Rattle.refusals.proofs.Verdicts.{refuses}
-use Rattle.walk.proofs.Sweeps.{sweeps-to}
+use Rattle.walk.proofs.Sweeps.{sweeps_to}
 use Rattle.least.specs.Wants.{reads_of_file}
 use Rattle.least.specs.Recurrence.{plan_detours, W, lowest, scan, filledTo, filled, candidate, next, value, choice, built, nextPlan, best, least_list}
 use Rattle.planner.specs.Plan.{Plans, plan_verdict}
@@ -54,7 +54,7 @@ use Rattle.demands.specs.Movements.{AsksNoLessByFile, Attained}
 use Rattle.demands.specs.Plain.{SameAnswer}
 use Rattle.demands.specs.Calls.{PriceCallWalks, PlanCallWalks}
 use Rattle.demands.specs.Cases.{example_run, four_files}
-use Rattle.demands.proofs.Judged.{nothing-judged, judged-nothing}
+use Rattle.demands.proofs.Judged.{nothing_judged, judged_nothing}
 use Rattle.demands.proofs.Formed.{formed_by_the_rules}
 use Rattle.demands.proofs.Demand1.{demand1_price, demand1_plan, plan_refused_iff}
 use Rattle.demands.proofs.Demand2.{demand2_price, demand2_walk, demand2_least}
@@ -137,11 +137,11 @@ wanderings = record { left = 18; right = 55 } ∷ record { left = 5; right = 15 
 
 more_accepted : NothingApplies more_asked
 unfolding judge_of first_where goes_on first_member last_within want_stops join_to joined right_end
-more_accepted = judged-nothing more_asked refl
+more_accepted = judged_nothing more_asked refl
 
 sheet_judged : NothingApplies example_run
 unfolding judge_of first_where goes_on first_member last_within want_stops join_to joined right_end
-sheet_judged = judged-nothing example_run refl
+sheet_judged = judged_nothing example_run refl
 
 no_fewer_reads : (a b c : Bool) → cond a 1 0 + (cond b 3 0 + (cond c 1 0 + 0)) ≤ cond a 1 0 + (cond b 4 0 + (cond c 1 0 + 0))
 no_fewer_reads a true c = omega arith
@@ -186,7 +186,7 @@ pub wanderings_no_list : (list : List Detour) → wanderings ≡ legs_of (stops_
 unfolding last_right legs_of last_sweep goes_on first_member last_within want_stops join_to joined
 wanderings_no_list list e =
     let detours : List Leg = map (leg_of (stops_of more_asked)) list in
-    let to = sweeps-to detours (stops_of more_asked) (omega arith) in
+    let to = sweeps_to detours (stops_of more_asked) (omega arith) in
     none_ends_there to.index (ap last_right e ∙ last_right_joined detours (record { left = 0; right = sweep_end detours (stops_of more_asked) }) ∙ to.is)
 
 -- So each demand speaks of something.
@@ -331,7 +331,7 @@ write_passes : refuses (write_verdict example_name example_run sheet_row) ≡ fa
 unfolding write_verdict row_verdict
 write_passes =
     let size = length (sheet_text example_name example_run) in
-    rw (nothing-judged example_run sheet_judged, sheet_named, length-replicate {A = ℕ} size 7, le-ltb size size (le_refl size))
+    rw (nothing_judged example_run sheet_judged, sheet_named, length-replicate {A = ℕ} size 7, le-ltb size size (le_refl size))
 
 write_accepted : sheet_written.refusal ≡ Accepted
 unfolding written_answer

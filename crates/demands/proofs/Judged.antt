@@ -20,8 +20,8 @@ use Rattle.runs.proofs.Judged.{GoodTable, GoodWants, accepted_table, accepted_wa
 use Rattle.demands.specs.RefusalTable.{FirstBad, FileIsBad, WantIsBad, RunApplies, NothingApplies, SomeApplies}
 use Rattle.demands.specs.Judged.{run_order, JudgedByTheTable}
 use Rattle.demands.proofs.Tests.{tells_below, tells_either}
-use Rattle.demands.proofs.Checks.{Decides, decides_if, decides_at, decides_reworded, Finds, finds-none, finds-first, first_of_joined, both_pass, AllRefuse, refused-iff}
-use Rattle.demands.proofs.Conditions.{WantedBeyond, rows_unfit, table_rows_unfit, file-is-bad, want-is-bad, head-left-of-end}
+use Rattle.demands.proofs.Checks.{Decides, decides_if, decides_at, decides_reworded, Finds, finds_none, finds_first, first_of_joined, both_pass, AllRefuse, refused_iff}
+use Rattle.demands.proofs.Conditions.{WantedBeyond, rows_unfit, table_rows_unfit, file_is_bad, want_is_bad, head_left_of_end}
 
 -- What each row of the table says, taken back from the condition.
 module _ (r : Run) where
@@ -64,9 +64,9 @@ module _ (r : Run) where
 -- The checks of the table, the wants and the turn price at the front of a row find the first of 1 to 6 that applies, and then what the others find.
 module _ (r : Run) (applies : Refusal → ℕ → Type 0) (there : (k : Refusal) (p : ℕ) → number_of k ≤ 6 → RunApplies r k p → applies k p)
     (back : (k : Refusal) (p : ℕ) → number_of k ≤ 6 → applies k p → RunApplies r k p) where
-  of_run : (k : Refusal) {v : Verdict} {A : ℕ → Type 0} → number_of k ≤ 6 → ((p : ℕ) → A p → RunApplies r k p) → ((p : ℕ) → RunApplies r k p → A p)
+  of_run_here : (k : Refusal) {v : Verdict} {A : ℕ → Type 0} → number_of k ≤ 6 → ((p : ℕ) → A p → RunApplies r k p) → ((p : ℕ) → RunApplies r k p → A p)
       → Decides k A v → Decides k (applies k) v
-  of_run k l on off d = decides_reworded (λ p h. there k p l (on p h)) (λ p h. off p (back k p l h)) d
+  of_run_here k l on off d = decides_reworded (λ p h. there k p l (on p h)) (λ p h. off p (back k p l h)) d
 
   pub table_finds : (rest : List Refusal) (vs : List Verdict) → (refuses (first_of (table_checks r.starts r.lengths r.aggregates)) ≡ false → Finds applies rest (first_of vs))
       → Finds applies (FileRows ∷ BadFile ∷ rest) (first_of (first_of (table_checks r.starts r.lengths r.aggregates) ∷ vs))
@@ -75,8 +75,8 @@ module _ (r : Run) (applies : Refusal → ℕ → Type 0) (there : (k : Refusal)
       let second = refuse_at (first_where (bad_file r.starts r.lengths r.aggregates) (length r.starts)) BadFile in
       rw
       (first_of_joined (table_checks r.starts r.lengths r.aggregates) vs)
-      (finds-first applies (second ∷ vs) refl (of_run FileRows (omega arith) (λ p h. rw h.0 (RunApplies.file_rows h.1)) (file_rows_only r) (decides_if _ FileRows (table_rows_unfit (length r.starts) (length r.lengths) (length r.aggregates))))
-      (λ a. finds-first applies vs refl (of_run BadFile (omega arith) (λ p h. RunApplies.bad_file h) (bad_file_only r) (decides_at (bad_file r.starts r.lengths r.aggregates) (FileIsBad r) (length r.starts) (file-is-bad r) BadFile))
+      (finds_first applies (second ∷ vs) refl (of_run_here FileRows (omega arith) (λ p h. rw h.0 (RunApplies.file_rows h.1)) (file_rows_only r) (decides_if _ FileRows (table_rows_unfit (length r.starts) (length r.lengths) (length r.aggregates))))
+      (λ a. finds_first applies vs refl (of_run_here BadFile (omega arith) (λ p h. RunApplies.bad_file h) (bad_file_only r) (decides_at (bad_file r.starts r.lengths r.aggregates) (FileIsBad r) (length r.starts) (file_is_bad r) BadFile))
       (λ b. others (both_pass first (second ∷ []) a (both_pass second [] b refl)))))
 
   pub wants_find : (rest : List Refusal) (vs : List Verdict) → (refuses (first_of (wants_checks (length r.starts) r.numbers r.counts)) ≡ false → Finds applies rest (first_of vs))
@@ -87,10 +87,10 @@ module _ (r : Run) (applies : Refusal → ℕ → Type 0) (there : (k : Refusal)
       let third = refuse_if (ltb most_reads (total r.counts)) TooManyReads in
       rw
       (first_of_joined (wants_checks (length r.starts) r.numbers r.counts) vs)
-      (finds-first applies (second ∷ third ∷ vs) refl (of_run WantRows (omega arith) (λ p h. rw h.0 (RunApplies.want_rows h.1)) (want_rows_only r) (decides_if _ WantRows (rows_unfit most_wants (length r.numbers) (length r.counts))))
-      (λ a. finds-first applies (third ∷ vs) refl
-      (of_run BadWant (omega arith) (λ p h. RunApplies.bad_want h) (bad_want_only r) (decides_at (bad_want (length r.starts) r.numbers r.counts) (WantIsBad r) (length r.numbers) (want-is-bad r) BadWant))
-      (λ b. finds-first applies vs refl (of_run TooManyReads (omega arith) (λ p h. rw h.0 (RunApplies.many_reads h.1)) (many_reads_only r) (decides_if _ TooManyReads (tells_below most_reads (total r.counts))))
+      (finds_first applies (second ∷ third ∷ vs) refl (of_run_here WantRows (omega arith) (λ p h. rw h.0 (RunApplies.want_rows h.1)) (want_rows_only r) (decides_if _ WantRows (rows_unfit most_wants (length r.numbers) (length r.counts))))
+      (λ a. finds_first applies (third ∷ vs) refl
+      (of_run_here BadWant (omega arith) (λ p h. RunApplies.bad_want h) (bad_want_only r) (decides_at (bad_want (length r.starts) r.numbers r.counts) (WantIsBad r) (length r.numbers) (want_is_bad r) BadWant))
+      (λ b. finds_first applies vs refl (of_run_here TooManyReads (omega arith) (λ p h. rw h.0 (RunApplies.many_reads h.1)) (many_reads_only r) (decides_if _ TooManyReads (tells_below most_reads (total r.counts))))
       (λ c. others (both_pass first (second ∷ third ∷ []) a (both_pass second (third ∷ []) b (both_pass third [] c refl)))))))
 
   pub turn_finds : (second : Verdict) (rest : List Refusal) (vs : List Verdict) → Decides HeadPlace (applies HeadPlace) second
@@ -100,8 +100,8 @@ module _ (r : Run) (applies : Refusal → ℕ → Type 0) (there : (k : Refusal)
       let first = refuse_if (ltb highest_turn r.turn) TurnPrice in
       rw
       (first_of_joined (first ∷ second ∷ []) vs)
-      (finds-first applies (second ∷ vs) refl (of_run TurnPrice (omega arith) (λ p h. rw h.0 (RunApplies.turn_price h.1)) (turn_price_only r) (decides_if _ TurnPrice (tells_below highest_turn r.turn)))
-      (λ a. finds-first applies vs refl head
+      (finds_first applies (second ∷ vs) refl (of_run_here TurnPrice (omega arith) (λ p h. rw h.0 (RunApplies.turn_price h.1)) (turn_price_only r) (decides_if _ TurnPrice (tells_below highest_turn r.turn)))
+      (λ a. finds_first applies vs refl head
       (λ b. others (both_pass first (second ∷ []) a (both_pass second [] b refl)))))
 
 -- With 7 after them.
@@ -113,11 +113,11 @@ module _ (r : Run) (applies : Refusal → ℕ → Type 0) (there : (k : Refusal)
   sooner_back : (k : Refusal) (p : ℕ) → number_of k ≤ 6 → applies k p → RunApplies r k p
   sooner_back k p l h = back k p (omega arith) h
 
-  head_decides : GoodTable r.starts r.lengths r.aggregates → GoodWants (length r.starts) r.numbers r.counts
+  head_decides_here : GoodTable r.starts r.lengths r.aggregates → GoodWants (length r.starts) r.numbers r.counts
       → Decides HeadPlace (applies HeadPlace) (refuse_if (ltb last_place r.head || ltb r.head (right_end (stops_of r))) HeadPlace)
-  head_decides files wants =
+  head_decides_here files wants =
       decides_reworded (λ p h. there HeadPlace p (only_head_place r p h)) (λ p h. head_place_only r p (back HeadPlace p (omega arith) h)) (decides_if _ HeadPlace
-      (tells_either (ltb last_place r.head) (ltb r.head (right_end (stops_of r))) (tells_below last_place r.head) (head-left-of-end r files wants)))
+      (tells_either (ltb last_place r.head) (ltb r.head (right_end (stops_of r))) (tells_below last_place r.head) (head_left_of_end r files wants)))
 
   pub run_finds : (rest : List Refusal) (vs : List Verdict) → (refuses (judge_of r) ≡ false → Finds applies rest (first_of vs))
       → Finds applies (FileRows ∷ BadFile ∷ WantRows ∷ BadWant ∷ TooManyReads ∷ TurnPrice ∷ HeadPlace ∷ rest) (first_of (judge_of r ∷ vs))
@@ -131,7 +131,7 @@ module _ (r : Run) (applies : Refusal → ℕ → Type 0) (there : (k : Refusal)
       (table_finds r applies sooner sooner_back (WantRows ∷ BadWant ∷ TooManyReads ∷ TurnPrice ∷ HeadPlace ∷ rest) (wants ∷ head ∷ vs)
       (λ a. wants_find r applies sooner sooner_back (TurnPrice ∷ HeadPlace ∷ rest) (head ∷ vs)
       (λ b. turn_finds r applies sooner sooner_back (refuse_if (ltb last_place r.head || ltb r.head (right_end (stops_of r))) HeadPlace) rest vs
-      (head_decides (accepted_table r.starts r.lengths r.aggregates a) (accepted_wants (length r.starts) r.numbers r.counts b))
+      (head_decides_here (accepted_table r.starts r.lengths r.aggregates a) (accepted_wants (length r.starts) r.numbers r.counts b))
       (λ c. others (both_pass table (wants ∷ head ∷ []) a (both_pass wants (head ∷ []) b (both_pass head [] c refl)))))))
 
 -- A check that finds the first of an order passes where none of the order applies.
@@ -141,7 +141,7 @@ none_found applies {order} v finds all none = go (refuses v) refl
     go : (b : Bool) → refuses v ≡ b → refuses v ≡ false
     go true e =
         let found : Finds applies order v = rw (← first_refuses v [] e) at finds in
-        absurd (none ((refused-iff applies found all).0 (λ k. true≢false (sym e ∙ ap is_refusal k))))
+        absurd (none ((refused_iff applies found all).0 (λ k. true≢false (sym e ∙ ap is_refusal k))))
     go false e = e
 
 -- A run is accepted if and only if nothing of 1 to 7 applies to it.
@@ -161,7 +161,7 @@ module _ (r : Run) where
   some_of_run k p (RunApplies.head_near a w h) = inr (inr (inr (inr (inr (inr (inl (0, RunApplies.head_near a w h)))))))
 
   judged_finds : Finds (RunApplies r) run_order (first_of (judge_of r ∷ []))
-  judged_finds = run_finds r (RunApplies r) (λ k p h. h) (λ k p l h. h) [] [] (λ a. finds-none (RunApplies r))
+  judged_finds = run_finds r (RunApplies r) (λ k p h. h) (λ k p l h. h) [] [] (λ a. finds_none (RunApplies r))
 
   all_refuse : AllRefuse run_order
   all_refuse = (refl, (refl, (refl, (refl, (refl, (refl, (refl, tt)))))))
@@ -172,7 +172,7 @@ module _ (r : Run) where
   pub judged_nothing : refuses (judge_of r) ≡ false → NothingApplies r
   judged_nothing e k p h =
       let found : Finds (RunApplies r) run_order accepted = rw (first_passes (judge_of r) [] e) at judged_finds in
-      (refused-iff (RunApplies r) found all_refuse).1 (some_of_run k p h) refl
+      (refused_iff (RunApplies r) found all_refuse).1 (some_of_run k p h) refl
 
   pub accepted_iff : NothingApplies r ↔ (refuses (judge_of r) ≡ false)
   accepted_iff = (nothing_judged, judged_nothing)
@@ -187,16 +187,16 @@ module _ (r : Run) where
   abbrev table : Verdict
   table = first_of (table_checks r.starts r.lengths r.aggregates)
 
-  table_found : Finds (RunApplies r) (FileRows ∷ BadFile ∷ []) (first_of (table ∷ []))
-  table_found = table_finds r (RunApplies r) (λ k p l h. h) (λ k p l h. h) [] [] (λ a. finds-none (RunApplies r))
+  table_found_here : Finds (RunApplies r) (FileRows ∷ BadFile ∷ []) (first_of (table ∷ []))
+  table_found_here = table_finds r (RunApplies r) (λ k p l h. h) (λ k p l h. h) [] [] (λ a. finds_none (RunApplies r))
 
   pub table_judged : ((p : ℕ) → RunApplies r FileRows p → ⊥) → ((p : ℕ) → RunApplies r BadFile p → ⊥) → refuses table ≡ false
-  table_judged rows files = none_found (RunApplies r) table table_found (refl, (refl, tt)) (⊎_elim (λ h. rows h.0 h.1) (⊎_elim (λ h. files h.0 h.1) (λ s. s)))
+  table_judged rows files = none_found (RunApplies r) table table_found_here (refl, (refl, tt)) (⊎_elim (λ h. rows h.0 h.1) (⊎_elim (λ h. files h.0 h.1) (λ s. s)))
 
   pub judged_table : refuses table ≡ false → ((p : ℕ) → RunApplies r FileRows p → ⊥) × ((p : ℕ) → RunApplies r BadFile p → ⊥)
   judged_table e =
-      let found : Finds (RunApplies r) (FileRows ∷ BadFile ∷ []) accepted = rw (first_passes table [] e) at table_found in
-      let none : SomeApplies (RunApplies r) (FileRows ∷ BadFile ∷ []) → ⊥ = λ s. (refused-iff (RunApplies r) found (refl, (refl, tt))).1 s refl in
+      let found : Finds (RunApplies r) (FileRows ∷ BadFile ∷ []) accepted = rw (first_passes table [] e) at table_found_here in
+      let none : SomeApplies (RunApplies r) (FileRows ∷ BadFile ∷ []) → ⊥ = λ s. (refused_iff (RunApplies r) found (refl, (refl, tt))).1 s refl in
       (λ p h. none (inl (p, h)), λ p h. none (inr (inl (p, h))))
 
 -- The verdict itself is the first that applies.

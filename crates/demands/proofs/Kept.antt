@@ -19,14 +19,14 @@ use Rattle.runs.specs.Judging.{returns, bad_want, table_checks, wants_checks}
 use Rattle.runs.proofs.Search.{or_false_both, first_same}
 use Rattle.runs.proofs.Accepted.{GoodFile}
 use Rattle.runs.proofs.Table.{table_file, end_before_start}
-use Rattle.runs.proofs.Members.{first_below, last-above, last_within_lem, member-first, same-last, between_first}
-use Rattle.runs.proofs.Numbers.{same-number-first, same-first-number}
+use Rattle.runs.proofs.Members.{first_below, last_above, last_within_lem, member_first, same_last, between_first}
+use Rattle.runs.proofs.Numbers.{same_number_first, same_first_number}
 use Rattle.runs.proofs.Judged.{GoodTable, accepted_table}
 use Rattle.demands.specs.RefusalTable.{IsFile, Together, Returns, FileIsBad, RunApplies, end_of_file}
 use Rattle.demands.specs.Unwanted.{LeavesOut, TableInOrder}
-use Rattle.demands.proofs.Conditions.{together-first, first-together}
-use Rattle.demands.proofs.Judged.{table-judged}
-use Rattle.demands.proofs.Renamed.{old-up, old-back, old-one, old-above, old-some, old-at, eqb-old, leb-old, renamedStop, allRenamed, joined-renamed}
+use Rattle.demands.proofs.Conditions.{together_first, first_together}
+use Rattle.demands.proofs.Judged.{table_judged}
+use Rattle.demands.proofs.Renamed.{old_up, old_back, old_one, old_above, old_some, old_at, eqb_old, leb_old, renamedStop, allRenamed, joined_renamed}
 
 -- The number of the first file of a file's aggregate is the next after the first member's index.
 first_file_is : (aggregates : List ℕ) (f : ℕ) → 0 < f → first_file aggregates f ≡ suc (first_member aggregates (f - 1))
@@ -48,27 +48,27 @@ back n = omega arith
 -- In a good table the first and the last of a file's aggregate lie together with it.
 first_with : (r : Run) → GoodTable r.starts r.lengths r.aggregates → (g : ℕ) → IsFile r g → Together r (suc (first_member r.aggregates (g - 1))) g
 first_with r files g b =
-    first-together r files (suc (first_member r.aggregates (g - 1))) g (omega arith) b.least
+    first_together r files (suc (first_member r.aggregates (g - 1))) g (omega arith) b.least
     (ap (first_member r.aggregates) (back (first_member r.aggregates (g - 1)))
-    ∙ member-first r.aggregates (g - 1) (first_member r.aggregates (g - 1)) (omega arith) (omega (arith, first_below r.aggregates (g - 1), last-above r.aggregates (g - 1))))
+    ∙ member_first r.aggregates (g - 1) (first_member r.aggregates (g - 1)) (omega arith) (omega (arith, first_below r.aggregates (g - 1), last_above r.aggregates (g - 1))))
 
 last_with_it : (r : Run) → GoodTable r.starts r.lengths r.aggregates → (g : ℕ) → IsFile r g → Together r (suc (last_member r.aggregates (g - 1))) g
 last_with_it r files g b =
-    first-together r files (suc (last_member r.aggregates (g - 1))) g (omega arith) b.least
+    first_together r files (suc (last_member r.aggregates (g - 1))) g (omega arith) b.least
     (ap (first_member r.aggregates) (back (last_member r.aggregates (g - 1)))
-    ∙ member-first r.aggregates (g - 1) (last_member r.aggregates (g - 1)) (omega (arith, first_below r.aggregates (g - 1), last-above r.aggregates (g - 1))) (omega arith))
+    ∙ member_first r.aggregates (g - 1) (last_member r.aggregates (g - 1)) (omega (arith, first_below r.aggregates (g - 1), last_above r.aggregates (g - 1))) (omega arith))
 
 -- And none that does is sooner than the first, or later than the last.
 no_sooner : (r : Run) → GoodTable r.starts r.lengths r.aggregates → (h g : ℕ) → IsFile r h → IsFile r g → Together r h g → suc (first_member r.aggregates (g - 1)) ≤ h
-no_sooner r files h g b c t = omega (arith, together-first r files h g b c t, first_below r.aggregates (h - 1), b.least)
+no_sooner r files h g b c t = omega (arith, together_first r files h g b c t, first_below r.aggregates (h - 1), b.least)
 
 no_later_lem : (r : Run) → GoodTable r.starts r.lengths r.aggregates → (h g : ℕ) → IsFile r h → IsFile r g → Together r h g → h ≤ suc (last_member r.aggregates (g - 1))
 no_later_lem r files h g b c t =
-    omega (arith, same-last r.aggregates (h - 1) (g - 1) (together-first r files h g b c t), last-above r.aggregates (h - 1), b.least)
+    omega (arith, same_last r.aggregates (h - 1) (g - 1) (together_first r files h g b c t), last_above r.aggregates (h - 1), b.least)
 
 module _ (old : ℕ → ℕ) (more less : Run) (out : LeavesOut old more less) (order : TableInOrder more) where
   pub more_passes : refuses (first_of (table_checks more.starts more.lengths more.aggregates)) ≡ false
-  more_passes = table-judged more order.rows order.files
+  more_passes = table_judged more order.rows order.files
 
   pub good : GoodTable more.starts more.lengths more.aggregates
   good = accepted_table more.starts more.lengths more.aggregates more_passes
@@ -143,41 +143,41 @@ module _ (old : ℕ → ℕ) (more less : Run) (out : LeavesOut old more less) (
         let middle = same_at k (omega arith) in
         let a = more.aggregates in
         let some : 0 < get_or a (old (suc i) - 1) 0 = omega (arith, here.aggregate, h.numbered) in
-        let ends = same-number-first a (length more.starts) good.numbers (old (suc j) - 1) (old (suc i) - 1) first.within here.within (first.aggregate ∙ h.met.2 ∙ sym here.aggregate) some in
-        let up : old (suc j) - 1 ≤ old (suc k) - 1 = omega (arith, old-up old out.names (suc j) (suc k) (omega (arith, h.met.1, h.left.1))) in
+        let ends = same_number_first a (length more.starts) good.numbers (old (suc j) - 1) (old (suc i) - 1) first.within here.within (first.aggregate ∙ h.met.2 ∙ sym here.aggregate) some in
+        let up : old (suc j) - 1 ≤ old (suc k) - 1 = omega (arith, old_up old out.names (suc j) (suc k) (omega (arith, h.met.1, h.left.1))) in
         let between = between_first a (old (suc j) - 1) (old (suc k) - 1) (old (suc i) - 1) up (omega (arith, before k below)) ends in
         ⊎_elim
         (λ (e : old (suc k) - 1 ≡ old (suc i) - 1). omega (arith, before k below))
         (λ s. h.left.2 (sym middle.aggregate ∙ s.0 ∙ here.aggregate))
-        (same-first-number a (old (suc k) - 1) (old (suc i) - 1) (between ∙ ends))
+        (same_first_number a (old (suc k) - 1) (old (suc i) - 1) (between ∙ ends))
 
     file_fine : FileIsBad less i → ⊥
     file_fine bad = ⊎_elim (⊎_elim has_length (⊎_elim no_overlap ends_on_tape)) (⊎_elim number_fits number_stays) bad
 
-  few_files : 4096 < length less.starts → ⊥
-  few_files h =
+  few_files_here : 4096 < length less.starts → ⊥
+  few_files_here h =
       omega (
         arith,
-        old-above old out.names (length less.starts),
+        old_above old out.names (length less.starts),
         (out.same (length less.starts) (record { least = omega arith; most = omega arith })).file.most,
         good.few,
       )
 
   rows_fit : (p : ℕ) → RunApplies less FileRows p → ⊥
-  rows_fit p (RunApplies.file_rows h) = ⊎_elim few_files (⊎_elim (λ n. n out.rows) (λ n. n out.numbered)) h
+  rows_fit p (RunApplies.file_rows h) = ⊎_elim few_files_here (⊎_elim (λ n. n out.rows) (λ n. n out.numbered)) h
 
   files_fine : (p : ℕ) → RunApplies less BadFile p → ⊥
   files_fine p (RunApplies.bad_file h) = file_fine h.index h.within h.here
 
   pub less_passes : refuses (first_of (table_checks less.starts less.lengths less.aggregates)) ≡ false
-  less_passes = table-judged less rows_fit files_fine
+  less_passes = table_judged less rows_fit files_fine
 
   pub good' : GoodTable less.starts less.lengths less.aggregates
   good' = accepted_table less.starts less.lengths less.aggregates less_passes
 
   -- The wants.
   number_at : (i : ℕ) → get_or more.numbers i 0 ≡ old (get_or less.numbers i 0)
-  number_at i = ap (λ ns. get_or ns i 0) out.numbers ∙ old-at old out.names less.numbers i
+  number_at i = ap (λ ns. get_or ns i 0) out.numbers ∙ old_at old out.names less.numbers i
 
   pub as_many : length more.numbers ≡ length less.numbers
   as_many = ap length out.numbers ∙ length-map less.numbers old
@@ -193,8 +193,8 @@ module _ (old : ℕ → ℕ) (more less : Run) (out : LeavesOut old more less) (
       (λ y. y)
       (λ n.
       let f = get_or less.numbers i 0 in
-      let k = found i l (old f) (record { least = old-some old out.names f (omega arith); most = omega arith }) (inl refl) in
-      absurd (omega (arith, old-one old out.names k.0 f k.2, k.1.most)))
+      let k = found i l (old f) (record { least = old_some old out.names f (omega arith); most = omega arith }) (inl refl) in
+      absurd (omega (arith, old_one old out.names k.0 f k.2, k.1.most)))
 
   in_both : (i : ℕ) → i < length less.numbers → ltb (length more.starts) (old (get_or less.numbers i 0)) ≡ ltb (length less.starts) (get_or less.numbers i 0)
   in_both i l =
@@ -215,9 +215,9 @@ module _ (old : ℕ → ℕ) (more less : Run) (out : LeavesOut old more less) (
   tested i low low' l e c =
       let f = get_or less.numbers i 0 in
       one_of_four c
-      (ap (λ n. eqb n 0) (number_at i) ∙ ap (eqb (old f)) (sym out.names.none) ∙ eqb-old old out.names f 0)
+      (ap (λ n. eqb n 0) (number_at i) ∙ ap (eqb (old f)) (sym out.names.none) ∙ eqb_old old out.names f 0)
       (ap (ltb (length more.starts)) (number_at i) ∙ in_both i l)
-      (ap (λ n. leb n low) (number_at i) ∙ ap (leb (old f)) e ∙ leb-old old out.names f low')
+      (ap (λ n. leb n low) (number_at i) ∙ ap (leb (old f)) e ∙ leb_old old out.names f low')
 
   want_same : (i : ℕ) → i < length less.numbers → bad_want (length more.starts) more.numbers more.counts i ≡ bad_want (length less.starts) less.numbers less.counts i
   want_same zero l =
@@ -245,7 +245,7 @@ module _ (old : ℕ → ℕ) (more less : Run) (out : LeavesOut old more less) (
 
   together_down : (f g : ℕ) → IsFile less f → IsFile less g → Together more (old f) (old g) → Together less f g
   together_down f g a b t =
-      ⊎_elim (λ e. inl (old-one old out.names f g e)) (λ h. inr (sym (out.same f a).aggregate ∙ h.0 ∙ (out.same g b).aggregate, omega (arith, h.1, (out.same g b).aggregate))) t
+      ⊎_elim (λ e. inl (old_one old out.names f g e)) (λ h. inr (sym (out.same f a).aggregate ∙ h.0 ∙ (out.same g b).aggregate, omega (arith, h.1, (out.same g b).aggregate))) t
 
   -- The stop of a want: the first and the last file of its aggregate are the same in both.
   module _ (i : ℕ) (l : i < length less.numbers) (f : ℕ) (is : get_or less.numbers i 0 ≡ f) (a : IsFile less f) where
@@ -261,8 +261,8 @@ module _ (old : ℕ → ℕ) (more less : Run) (out : LeavesOut old more less) (
     abbrev last : ℕ
     last = suc (last_member less.aggregates (f - 1))
 
-    first_here : IsFile less first
-    first_here = record { least = omega arith; most = omega (arith, first_below less.aggregates (f - 1), a.least, a.most) }
+    first_here_here : IsFile less first
+    first_here_here = record { least = omega arith; most = omega (arith, first_below less.aggregates (f - 1), a.least, a.most) }
 
     last_here : IsFile less last
     last_here = record { least = omega arith; most = omega (arith, last_within_lem less.aggregates (f - 1) (omega (arith, a.least, a.most, good'.rows)), good'.rows) }
@@ -273,10 +273,10 @@ module _ (old : ℕ → ℕ) (more less : Run) (out : LeavesOut old more less) (
         let b : IsFile more there = record { least = omega arith; most = omega (arith, first_below more.aggregates (old f - 1), in_more.least, in_more.most) } in
         let t = first_with more good (old f) in_more in
         let k = with_want there b t in
-        let up = no_sooner more good (old first) (old f) (out.same first first_here).file in_more (together_up first f first_here a (first_with less good' f a)) in
+        let up = no_sooner more good (old first) (old f) (out.same first first_here_here).file in_more (together_up first f first_here_here a (first_with less good' f a)) in
         let t' : Together more (old k.0) (old f) = rw k.2 t in
         let down = no_sooner less good' k.0 f k.1 a (together_down k.0 f k.1 a t') in
-        let back-up = old-back old out.names k.0 first (omega (arith, k.2, up)) in
+        let back-up = old_back old out.names k.0 first (omega (arith, k.2, up)) in
         let e : k.0 ≡ first = omega (arith, down, back-up) in
         sym k.2 ∙ ap old e
 
@@ -289,13 +289,13 @@ module _ (old : ℕ → ℕ) (more less : Run) (out : LeavesOut old more less) (
         let up = no_later_lem more good (old last) (old f) (out.same last last_here).file in_more (together_up last f last_here a (last_with_it less good' f a)) in
         let t' : Together more (old k.0) (old f) = rw k.2 t in
         let down = no_later_lem less good' k.0 f k.1 a (together_down k.0 f k.1 a t') in
-        let back-up = old-back old out.names last k.0 (omega (arith, k.2, up)) in
+        let back-up = old_back old out.names last k.0 (omega (arith, k.2, up)) in
         let e : k.0 ≡ last = omega (arith, down, back-up) in
         sym k.2 ∙ ap old e
 
     stop_same_here : (c : ℕ) → stop_of more.starts more.lengths more.aggregates (old f) c ≡ renamedStop old out.names (stop_of less.starts less.lengths less.aggregates f c)
     stop_same_here c =
-        let s = out.same first first_here in
+        let s = out.same first first_here_here in
         let t = out.same last last_here in
         let at : first_member more.aggregates (old f - 1) ≡ old first - 1 = omega (arith, first_same_file) in
         let to : last_member more.aggregates (old f - 1) ≡ old last - 1 = omega (arith, last_same_file) in
@@ -320,4 +320,4 @@ module _ (old : ℕ → ℕ) (more less : Run) (out : LeavesOut old more less) (
         (each_renamed less.numbers less.counts (λ i l c. stop_same_here i l (get_or less.numbers i 0) refl (named i l) c))
 
     pub stops_renamed : stops_of more ≡ allRenamed old out.names (stops_of less)
-    stops_renamed = ap joined wants_renamed ∙ joined-renamed old out.names (want_stops_of less)
+    stops_renamed = ap joined wants_renamed ∙ joined_renamed old out.names (want_stops_of less)

@@ -26,19 +26,19 @@ use Rattle.runs.proofs.Sound.{Sound}
 use Rattle.runs.proofs.Stops.{accepted_sound, run_sound}
 use Rattle.runs.proofs.AnyHead.{GoodAnyRun}
 use Rattle.walk.proofs.Joins.{served_same, leg_same}
-use Rattle.walk.proofs.Pulled.{leg-pulled, legs-left}
+use Rattle.walk.proofs.Pulled.{leg_pulled, legs_left}
 use Rattle.least.proofs.Walks.{serves_each}
 use Rattle.least.proofs.Sweeps.{leftmost_last, leftmost_last_any, earlier_leg}
-use Rattle.least.proofs.LeastAny.{pulled-sound}
+use Rattle.least.proofs.LeastAny.{pulled_sound}
 use Rattle.planner.specs.Rows.{reads_in}
 use Rattle.demands.specs.Demand2.{list_in, IsWalkOf}
 use Rattle.demands.specs.AnyHead.{IsWalkAnyOf}
 use Rattle.demands.specs.Legs.{leg_numbered, ReadsIn, LegsTold, PriceTellsLegs, PlanTellsLegs, PriceAnyTellsLegs, PlanAnyTellsLegs}
-use Rattle.demands.proofs.Planned.{run-accepted}
-use Rattle.demands.proofs.Demand2.{formed-list, demand2_price, demand2_walk, price_run_accepted}
+use Rattle.demands.proofs.Planned.{run_accepted}
+use Rattle.demands.proofs.Demand2.{formed_list, demand2_price, demand2_walk, price_run_accepted}
 use Rattle.demands.proofs.AnyLegs.{holds_true, leftmost_unread, many_legs}
-use Rattle.demands.proofs.AnyHead.{formed-list-any, good_run, price_any_good, demand2_price_any, demand2_walk_any}
-use Rattle.demands.proofs.Ends.{in_row, size, some-stops, stop-of-want, entry_at}
+use Rattle.demands.proofs.AnyHead.{formed_list_any, good_run, price_any_good, demand2_price_any, demand2_walk_any}
+use Rattle.demands.proofs.Ends.{in_row, size, some_stops, stop_of_want, entry_at}
 use Rattle.demands.proofs.Stops.{first_placed}
 
 -- Counted from one more, a leg's number is one more.
@@ -97,8 +97,8 @@ leftmost_leg_any : (m M : ℕ) (stops : List Stop) → Sound stops M → (list :
 unfolding pulled
 leftmost_leg_any m M [] ok list formed some = absurd (omega arith)
 leftmost_leg_any m M (s ∷ ss) ok list formed some =
-    sym (leg-pulled m 1 (legs_any_of m (s ∷ ss) list) (legs-left m (s ∷ ss) list) s)
-    ∙ leftmost_last_any (pulled_stop m s) (pulled m ss) m (pulled-sound m M (s ∷ ss) ok) list (leftmost_unread m M s ss ok list formed)
+    sym (leg_pulled m 1 (legs_any_of m (s ∷ ss) list) (legs_left m (s ∷ ss) list) s)
+    ∙ leftmost_last_any (pulled_stop m s) (pulled m ss) m (pulled_sound m M (s ∷ ss) ok) list (leftmost_unread m M s ss ok list formed)
 
 -- An accepted run, and rows that hold the times and the legs of a movement from a head at m that reads every stop.
 module _ (r : Run) (good : GoodRun r) (m : ℕ) (gs : List Leg) (rows : ReadRows) (serves : ServesAll gs (stops_of r)) (times : take (length r.numbers) rows.times ≡ times_of r.turn (head_at m) gs (want_stops_of r)) (legs : take (length r.numbers) rows.legs ≡ legs_for gs (want_stops_of r)) where
@@ -110,13 +110,13 @@ module _ (r : Run) (good : GoodRun r) (m : ℕ) (gs : List Leg) (rows : ReadRows
 
   is_served : (i : ℕ) → i < length r.numbers → served gs (stop_at (want_stops_of r) i) ≡ true
   is_served i l =
-      let p = stop-of-want r good i l in
+      let p = stop_of_want r good i l in
       served_same gs (stop_at (want_stops_of r) i) (stop_at (stops_of r) p.index) p.places
       ∙ holds_true (served gs (stop_at (stops_of r) p.index)) (serves_each gs (stops_of r) serves p.index p.within)
 
   -- A want's stop has a length, as the joined one has.
   long_enough_here : (i : ℕ) → i < length r.numbers → (stop_at (want_stops_of r) i).start < (stop_at (want_stops_of r) i).end
-  long_enough_here i l = let p = stop-of-want r good i l in omega (arith, p.places.start, p.places.end, (run_sound r good).extends p.index p.within)
+  long_enough_here i l = let p = stop_of_want r good i l in omega (arith, p.places.start, p.places.end, (run_sound r good).extends p.index p.within)
 
   told_each : (i : ℕ) → i < length r.numbers → ReadsIn r.turn (head_at m) gs (stop_at (want_stops_of r) i) (get_or rows.times i 0) (get_or rows.legs i 0)
   told_each i l = rw (its_time i l, its_leg i l) (reads_in_lem r.turn (head_at m) gs (stop_at (want_stops_of r) i) (is_served i l))
@@ -131,14 +131,14 @@ module _ (r : Run) (good : GoodRun r) (m : ℕ) (gs : List Leg) (rows : ReadRows
   module _ (list : List Detour) (many : 0 < length (stops_of r) → length gs ≡ length list + 1) (last : 0 < length (stops_of r) → leg_for gs (stop_at (stops_of r) 0) ≡ length list + 1) where
     told_one_here : list ≡ [] → (i : ℕ) → i < length r.numbers → get_or rows.legs i 0 ≡ 1
     told_one_here e i l =
-        let n = many (some-stops r good (omega arith)) in
+        let n = many (some_stops r good (omega arith)) in
         omega (arith, ap length e, n, (told_each i l).counted.0, (told_each i l).counted.1)
 
     told_leftmost : 0 < length r.numbers → get_or rows.legs 0 0 ≡ length list + 1
     told_leftmost some =
         its_leg 0 some
         ∙ leg_same 1 gs (stop_at (want_stops_of r) 0) (stop_at (stops_of r) 0) (first_placed (want_stops_of r) (omega (arith, size r good)))
-        ∙ last (some-stops r good some)
+        ∙ last (some_stops r good some)
 
 -- Of a list of 01.
 module _ (r : Run) (ok : refuses (judge_of r) ≡ false) (list : List Detour) (rows : ReadRows) (answer : Answer) (walk : IsWalkOf r list rows answer) where
@@ -147,9 +147,9 @@ module _ (r : Run) (ok : refuses (judge_of r) ≡ false) (list : List Detour) (r
       let good = accepted_run r ok in
       let gs = legs_of (stops_of r) list in
       let many = many_legs (stops_of r) list in
-      let last = leftmost_leg (stops_of r) r.head (accepted_sound r ok) list (formed-list r good list walk.formed) in
+      let last = leftmost_leg (stops_of r) r.head (accepted_sound r ok) list (formed_list r good list walk.formed) in
       record {
-        many = λ some. many (some-stops r good some);
+        many = λ some. many (some_stops r good some);
         each = told_each r good r.head gs rows walk.serves walk.times walk.legs;
         leftmost = told_leftmost r good r.head gs rows walk.serves walk.times walk.legs list many last;
         one = told_one_here r good r.head gs rows walk.serves walk.times walk.legs list many last;
@@ -162,7 +162,7 @@ price_tells_legs r froms tos rows answer out says fills accepts =
 
 pub plan_tells_legs : PlanTellsLegs
 plan_tells_legs r before answer after plans accepts =
-    told r (run-accepted r before answer after plans accepts) (list_in answer after) (reads_in after) answer (demand2_walk r before answer after plans accepts)
+    told r (run_accepted r before answer after plans accepts) (list_in answer after) (reads_in after) answer (demand2_walk r before answer after plans accepts)
 
 -- From a head anywhere: the run with its head at the end of the tape has the same rows and stops.
 module _ (r : Run) (good : GoodAnyRun r) (list : List Detour) (rows : ReadRows) (answer : Answer) (walk : IsWalkAnyOf r list rows answer) (formed : WellFormedAny r.head (stops_of r) list) where
@@ -172,7 +172,7 @@ module _ (r : Run) (good : GoodAnyRun r) (list : List Detour) (rows : ReadRows) 
       let many = walk.made.many in
       let last = leftmost_leg_any r.head (lifted r).head (stops_of r) (run_sound (lifted r) good.run) list formed in
       record {
-        many = λ some. many (some-stops (lifted r) good.run some);
+        many = λ some. many (some_stops (lifted r) good.run some);
         each = told_each (lifted r) good.run r.head gs rows walk.serves walk.times walk.legs;
         leftmost = told_leftmost (lifted r) good.run r.head gs rows walk.serves walk.times walk.legs list many last;
         one = told_one_here (lifted r) good.run r.head gs rows walk.serves walk.times walk.legs list many last;
@@ -183,10 +183,10 @@ pub price_any_tells_legs : PriceAnyTellsLegs
 price_any_tells_legs r froms tos rows answer out says fills accepts =
     let good = price_any_good r froms tos rows answer says accepts in
     let walk = (demand2_price_any r froms tos rows answer out says fills accepts).1 in
-    told_any r good (list_of froms tos) out answer walk (formed-list-any r good (list_of froms tos) walk.formed)
+    told_any r good (list_of froms tos) out answer walk (formed_list_any r good (list_of froms tos) walk.formed)
 
 pub plan_any_tells_legs : PlanAnyTellsLegs
 plan_any_tells_legs r before answer after plans accepts =
     let good = good_run r before answer after plans accepts in
     let walk = demand2_walk_any r before answer after plans accepts in
-    told_any r good (list_in answer after) (reads_in after) answer walk (formed-list-any r good (list_in answer after) walk.formed)
+    told_any r good (list_in answer after) (reads_in after) answer walk (formed_list_any r good (list_in answer after) walk.formed)

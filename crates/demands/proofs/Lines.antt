@@ -21,10 +21,10 @@ use Rattle.demands.proofs.Tests.{Tells, tells_true, tells_holds, tells_at_most, 
 
 -- A byte that a text has not has nothing behind it.
 module _ (c : ℕ) where
-  pub behind_none_here : (text : List ℕ) → has c text ≡ false → behind c text ≡ []
+  pub behind_none : (text : List ℕ) → has c text ≡ false → behind c text ≡ []
   unfolding has behind
-  behind_none_here [] e = refl
-  behind_none_here (b ∷ text) e = let both = or_false_both (eqb b c) (has c text) e in rw both.0 (behind_none_here text both.1)
+  behind_none [] e = refl
+  behind_none (b ∷ text) e = let both = or_false_both (eqb b c) (has c text) e in rw both.0 (behind_none text both.1)
 
 begins_itself : (key : List ℕ) → starts_with key key ≡ true
 unfolding starts_with
@@ -86,7 +86,7 @@ module _ (Kind : List ℕ → Type 0) (test : List ℕ → Bool) (tells : (v : L
     where
       go : (b : Bool) → has comma text ≡ b → (is_number (before comma text) ≡ true) × (test (behind comma text) ≡ true) → NumberAnd Kind text
       go true h n = record { first = before comma text; others = behind comma text; is = split_at comma text h; left = n.0; right = (tells (behind comma text)).when_true n.1 }
-      go false h n = absurd (true≢false (sym (rw (behind_none_here comma text h) at n.1) ∙ some))
+      go false h n = absurd (true≢false (sym (rw (behind_none comma text h) at n.1) ∙ some))
 
       both : NumberAnd Kind text → (is_number (before comma text) && test (behind comma text)) ≡ true
       both p =
@@ -124,9 +124,9 @@ module _ (key : List ℕ) (long : 0 < length key) (plain : has line_feed key ≡
   unfolding line_of
   no_line h = rw h (sym (short_text key [] long))
 
-  line_is : has line_feed text ≡ true → starts_with key (line_of text) ≡ true → text ≡ key ++ value_text key (line_of text) ++ (line_feed ∷ behind line_feed text)
+  line_is_here : has line_feed text ≡ true → starts_with key (line_of text) ≡ true → text ≡ key ++ value_text key (line_of text) ++ (line_feed ∷ behind line_feed text)
   unfolding line_of
-  line_is h e =
+  line_is_here h e =
       let front : line_of text ≡ before line_feed text = rw h in
       split_at line_feed text h ∙ ap (λ t. t ++ (line_feed ∷ behind line_feed text)) (sym front ∙ key_split key (line_of text) e)
 
@@ -136,7 +136,7 @@ module _ (key : List ℕ) (long : 0 < length key) (plain : has line_feed key ≡
     where
       go : (b : Bool) → has line_feed text ≡ b → (starts_with key (line_of text) ≡ true) × (test (value_text key (line_of text)) ≡ true) → Stands key Kind sheet i
       go true h both =
-          record { value = value_text key (line_of text); rest = behind line_feed text; is = line_is h both.0; kind = (tells (value_text key (line_of text))).when_true both.1 }
+          record { value = value_text key (line_of text); rest = behind line_feed text; is = line_is_here h both.0; kind = (tells (value_text key (line_of text))).when_true both.1 }
       go false h both = absurd (true≢false (sym both.0 ∙ no_line h))
 
       reads : Stands key Kind sheet i → (starts_with key (line_of text) && test (value_text key (line_of text))) ≡ true

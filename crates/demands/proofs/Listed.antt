@@ -1,7 +1,7 @@
 -- Row 10 of the refusal table: the check of a detour list decides its condition, for an accepted run.
 use Prim.Native.Nat.{ℕ, zero, suc, ◌-◌, ◌≤◌, ◌<◌}
 use mathlib.Core.Path.{◌≡◌, refl, sym, ap, ◌∙◌}
-use mathlib.Core.Bool.{Bool, true, false, not, ◌||◌, ◌&&◌, or_true, true≢false}
+use mathlib.Core.Bool.{Bool, true, false, not, ◌||◌, ◌&&◌, or-true, true≢false}
 use mathlib.Core.Logic.{inl, inr, ⊎_elim}
 use mathlib.Core.List.{List, [], ◌∷◌}
 use native.Mathlib.Omega.{arith}
@@ -14,13 +14,13 @@ use Rattle.runs.specs.Run.{Run, goes_on, first_member, last_member, stops_of}
 use Rattle.runs.specs.Lists.{list_of, bad_after, first_bad_entry, list_verdict}
 use Rattle.runs.specs.Private.{some_between, row_named, row_entry, row_alone, row_clash, row_bad}
 use Rattle.runs.proofs.Search.{true_or_false}
-use Rattle.runs.proofs.Members.{and_true_both, goes-on-zero, goes-on-same, first_stays, first_below, last-above, member-first, same-last}
+use Rattle.runs.proofs.Members.{and_true_both, goes_on_zero, goes_on_same, first_stays, first_below, last_above, member_first, same_last}
 use Rattle.runs.proofs.Judged.{GoodRun}
-use Rattle.runs.proofs.Entries.{first-bad-row}
+use Rattle.runs.proofs.Entries.{first_bad_row}
 use Rattle.demands.specs.RefusalTable.{IsFile, NamesStop, BadByItself, BadAgainst, EntryIsBad, ListIsBad}
-use Rattle.demands.proofs.Tests.{Tells, tells_below, tells_at_most, tells_not, tells_either, tells_reworded, tells_regrouped, tells-some}
+use Rattle.demands.proofs.Tests.{Tells, tells_below, tells_at_most, tells_not, tells_either, tells_reworded, tells_regrouped, tells_some}
 use Rattle.demands.proofs.Checks.{Decides, refused, decides_at, decides_alone, decides_reworded}
-use Rattle.demands.proofs.Conditions.{together-first, first-together, named}
+use Rattle.demands.proofs.Conditions.{together_first, first_together, named}
 
 -- A number of the row that lies between two.
 pub record Between (numbers : List ℕ) (low high : ℕ) : Type 0 where
@@ -44,7 +44,7 @@ between_lies : (numbers : List ℕ) (low high i : ℕ) → i < length numbers �
 unfolding some_between
 between_lies [] low high i l a b = absurd (omega arith)
 between_lies (n ∷ ns) low high zero l a b = rw (le-leb low n a, le-leb n high b)
-between_lies (n ∷ ns) low high (suc i) l a b = rw (between_lies ns low high i (omega arith) a b, or_true)
+between_lies (n ∷ ns) low high (suc i) l a b = rw (between_lies ns low high i (omega arith) a b, or-true)
 
 -- An entry against an earlier one.
 against : (earlierFrom earlierTo from to : ℕ) → Tells (bad_after (record { from = earlierFrom; to = earlierTo }) (record { from = from; to = to })) (BadAgainst earlierFrom earlierTo from to)
@@ -78,13 +78,13 @@ module _ (r : Run) (good : GoodRun r) where
       let here : suc i - 1 ≡ i = omega arith in
       let begins : goes_on r.aggregates i ≡ false = rw here at (not-true (goes_on r.aggregates (suc i - 1)) both.0) in
       let own = first_stays r.aggregates i begins in
-      let member = member-first r.aggregates i (get_or r.numbers w.index 0 - 1) (omega (arith, own, w.above)) (omega (arith, w.below, at.least)) in
+      let member = member_first r.aggregates i (get_or r.numbers w.index 0 - 1) (omega (arith, own, w.above)) (omega (arith, w.below, at.least)) in
       record {
         file = record { least = omega arith; most = omega (arith, w.above, at.most) };
         first = λ g a l t.
-            let same = together-first r good.files g (suc i) a (record { least = omega arith; most = omega (arith, w.above, at.most) }) t in
+            let same = together_first r good.files g (suc i) a (record { least = omega arith; most = omega (arith, w.above, at.most) }) t in
             omega (arith, rw here at same, own, first_below r.aggregates (g - 1), a.least);
-        wanted = record { want = w.index; within = w.within; together = first-together r good.files (suc i) (get_or r.numbers w.index 0) (omega arith) at.least (ap (first_member r.aggregates) here ∙ sym member) };
+        wanted = record { want = w.index; within = w.within; together = first_together r good.files (suc i) (get_or r.numbers w.index 0) (omega arith) at.least (ap (first_member r.aggregates) here ∙ sym member) };
       }
 
   names_test : (f : ℕ) → NamesStop r f → row_named r.aggregates r.numbers f ≡ true
@@ -93,33 +93,33 @@ module _ (r : Run) (good : GoodRun r) where
       let here : suc i - 1 ≡ i = omega arith in
       let w = s.wanted in
       let at = wanted_file w.want w.within in
-      let first = rw here at (together-first r good.files (suc i) (get_or r.numbers w.want 0) s.file at w.together) in
+      let first = rw here at (together_first r good.files (suc i) (get_or r.numbers w.want 0) s.file at w.together) in
       let own = first_stays r.aggregates i (begins i s) in
-      let last = same-last r.aggregates i (get_or r.numbers w.want 0 - 1) first in
+      let last = same_last r.aggregates i (get_or r.numbers w.want 0 - 1) first in
       rw (
         here,
         begins i s,
         between_lies r.numbers (suc i) (suc (last_member r.aggregates i)) w.want w.within
             (omega (arith, own, first, first_below r.aggregates (get_or r.numbers w.want 0 - 1), at.least))
-            (omega (arith, last, last-above r.aggregates (get_or r.numbers w.want 0 - 1), at.least)),
+            (omega (arith, last, last_above r.aggregates (get_or r.numbers w.want 0 - 1), at.least)),
       )
     where
       begins : (i : ℕ) → NamesStop r (suc i) → goes_on r.aggregates i ≡ false
-      begins zero s = goes-on-zero r.aggregates
+      begins zero s = goes_on_zero r.aggregates
       begins (suc i) s = ⊎_elim (λ on. absurd (no on)) (λ off. off) (true_or_false (goes_on r.aggregates (suc i)))
         where
           no : goes_on r.aggregates (suc i) ≡ true → ⊥
           no on =
               let up : suc (suc i) - 1 ≡ suc i = omega arith in
               let down : suc i - 1 ≡ i = omega arith in
-              let same = goes-on-same r.aggregates i on in
+              let same = goes_on_same r.aggregates i on in
               s.first (suc i) (record { least = omega arith; most = omega (arith, s.file.most) }) (omega arith) (inr (rw (up, down) same.0, rw up same.1))
 
-  pub names_stop_here : (f : ℕ) → Tells (row_named r.aggregates r.numbers f) (NamesStop r f)
-  names_stop_here f = record { when_true = test_names f; when_false = λ e s. true≢false (sym (names_test f s) ∙ e) }
+  pub names_stop_lem : (f : ℕ) → Tells (row_named r.aggregates r.numbers f) (NamesStop r f)
+  names_stop_lem f = record { when_true = test_names f; when_false = λ e s. true≢false (sym (names_test f s) ∙ e) }
 
-  bad_by_itself : (from to : ℕ) → Tells (row_alone r.aggregates r.numbers from to) (BadByItself r from to)
-  bad_by_itself from to =
+  bad_by_itself_here : (from to : ℕ) → Tells (row_alone r.aggregates r.numbers from to) (BadByItself r from to)
+  bad_by_itself_here from to =
       let a = row_named r.aggregates r.numbers from in
       let b = row_named r.aggregates r.numbers to in
       let first = get_or r.numbers 0 0 in
@@ -127,7 +127,7 @@ module _ (r : Run) (good : GoodRun r) where
       (tells_regrouped
       (tells_either (not a || not b || ltb to from) (leb from first)
       (tells_either (not a || not b) (ltb to from)
-      (tells_either (not a) (not b) (tells_not a (names_stop_here from)) (tells_not b (names_stop_here to)))
+      (tells_either (not a) (not b) (tells_not a (names_stop_lem from)) (tells_not b (names_stop_lem to)))
       (tells_below to from))
       (tells_at_most from first)))
 
@@ -135,8 +135,8 @@ module _ (r : Run) (good : GoodRun r) where
     pub entry_is_bad : (i : ℕ) → Tells (row_bad r.aggregates r.numbers froms tos i) (EntryIsBad r froms tos i)
     entry_is_bad i =
         tells_either (row_alone r.aggregates r.numbers (get_or froms i 0) (get_or tos i 0)) (row_clash froms tos i)
-        (bad_by_itself (get_or froms i 0) (get_or tos i 0))
-        (tells-some
+        (bad_by_itself_here (get_or froms i 0) (get_or tos i 0))
+        (tells_some
         (λ j. bad_after (row_entry froms tos j) (row_entry froms tos i))
         (λ j. BadAgainst (get_or froms j 0) (get_or tos j 0) (get_or froms i 0) (get_or tos i 0))
         (λ j. against (get_or froms j 0) (get_or tos j 0) (get_or froms i 0) (get_or tos i 0))
@@ -147,7 +147,7 @@ module _ (r : Run) (good : GoodRun r) where
         → Decides BadEntry (ListIsBad r froms tos) (first_of (refuse_at (first_bad_entry (stops_of r) (list_of froms tos)) BadEntry ∷ []))
     decides_entries even same =
         rw
-        (first-bad-row r.starts r.lengths r.aggregates r.numbers r.counts same froms tos even)
+        (first_bad_row r.starts r.lengths r.aggregates r.numbers r.counts same froms tos even)
         (decides_alone refl
         (decides_reworded
         (λ p f. inr (even, f))

@@ -12,7 +12,7 @@ use Rattle.runs.specs.Run.{Run}
 use Rattle.runs.proofs.Judged.{GoodRun, accepted_run}
 use Rattle.least.specs.Wants.{reads_of_file}
 use Rattle.demands.specs.Offices.{MultipliedWants}
-use Rattle.demands.proofs.Judged.{nothing-judged}
+use Rattle.demands.proofs.Judged.{nothing_judged}
 
 -- Wants whose numbers rise from above a bound, each at least once.
 abbrev Above : ℕ → List ℕ → List ℕ → Type 0
@@ -97,6 +97,6 @@ module _ (c : ℕ) (some : 1 ≤ c) where
 pub multiplied_wants : MultipliedWants
 multiplied_wants c many r some nothing nothing' over =
     same_wants c some 0 many.numbers many.counts r.numbers r.counts
-    (run_above many (accepted_run many (nothing-judged many nothing)))
-    (run_above r (accepted_run r (nothing-judged r nothing')))
+    (run_above many (accepted_run many (nothing_judged many nothing)))
+    (run_above r (accepted_run r (nothing_judged r nothing')))
     over.reads

@@ -25,9 +25,9 @@ use Rattle.planner.specs.Rows.{reads_in}
 use Rattle.demands.specs.Demand2.{IsFormed, list_in, IsWalkOf}
 use Rattle.demands.specs.AnyHead.{IsFormedAny, IsWalkAnyOf}
 use Rattle.demands.specs.Ends.{NothingWanted, PriceOfNothing, PlanOfNothing, PriceAnyOfNothing, PlanAnyOfNothing}
-use Rattle.demands.proofs.Planned.{run-accepted}
-use Rattle.demands.proofs.Demand2.{formed-list, demand2_price, demand2_walk, price_run_accepted}
-use Rattle.demands.proofs.AnyHead.{formed-list-any, good_run, price_any_good, demand2_price_any, demand2_walk_any}
+use Rattle.demands.proofs.Planned.{run_accepted}
+use Rattle.demands.proofs.Demand2.{formed_list, demand2_price, demand2_walk, price_run_accepted}
+use Rattle.demands.proofs.AnyHead.{formed_list_any, good_run, price_any_good, demand2_price_any, demand2_walk_any}
 
 pub no_stops : (starts lengths aggregates ns cs : List ℕ) → length ns ≡ 0 → joined (want_stops starts lengths aggregates ns cs) ≡ []
 unfolding want_stops joined
@@ -50,7 +50,7 @@ module _ (r : Run) (ok : refuses (judge_of r) ≡ false) (list : List Detour) (r
   stops = no_stops r.starts r.lengths r.aggregates r.numbers r.counts none
 
   empty : (other : List Detour) → IsFormed r other → other ≡ []
-  empty other formed = none_wanted other (rw stops at (formed-list r (accepted_run r ok) other formed))
+  empty other formed = none_wanted other (rw stops at (formed_list r (accepted_run r ok) other formed))
 
   stands : walked r.turn (head_at r.head) (legs_of (stops_of r) list) ≡ head_at r.head
   stands = rw (stops, empty list walk.formed) (no_walk r.turn r.head)
@@ -72,7 +72,7 @@ price_of_nothing r froms tos rows answer out says fills accepts none =
 
 pub plan_of_nothing : PlanOfNothing
 plan_of_nothing r before answer after plans accepts none =
-    nothing_read r (run-accepted r before answer after plans accepts) (list_in answer after) (reads_in after) answer
+    nothing_read r (run_accepted r before answer after plans accepts) (list_in answer after) (reads_in after) answer
     (demand2_walk r before answer after plans accepts) none
 
 -- From a head anywhere.
@@ -87,7 +87,7 @@ module _ (r : Run) (good : GoodAnyRun r) (list : List Detour) (rows : ReadRows) 
   stops_any = no_stops r.starts r.lengths r.aggregates r.numbers r.counts none
 
   empty_any : (other : List Detour) → IsFormedAny r other → other ≡ []
-  empty_any other formed = none_wanted other (any_formed r.head [] other (rw stops_any at (formed-list-any r good other formed)))
+  empty_any other formed = none_wanted other (any_formed r.head [] other (rw stops_any at (formed_list_any r good other formed)))
 
   stands_any : walked r.turn (head_at r.head) (run_legs r list) ≡ head_at r.head
   stands_any = rw (stops_any, empty_any list walk.formed) (no_walk_any r.turn r.head)

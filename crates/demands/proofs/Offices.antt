@@ -12,29 +12,29 @@ use Rattle.runs.proofs.Judged.{GoodRun, accepted_run}
 use Rattle.least.specs.Least.{list_sum, LeastForRun}
 use Rattle.least.proofs.LeastList.{least_unique}
 use Rattle.least.proofs.Offices as Laws
-use Rattle.least.proofs.Scaled.{allScaled, wants-multiplied, stops-multiplied, legs-scaled, times-scaled, told-scaled, list-sum-scaled, least_scaled}
+use Rattle.least.proofs.Scaled.{allScaled, wants_multiplied, stops_multiplied, legs_scaled, times_scaled, told_scaled, list_sum_scaled, least_scaled}
 use Rattle.planner.specs.Plan.{Planned}
 use Rattle.planner.specs.Rows.{Rows}
 use Rattle.demands.specs.Demand2.{list_in, IsTheWalk}
 use Rattle.demands.specs.Offices.{Reports, OneTape, SharingNeverPays, Multiplies, SamePlan, MultipliedTheSame}
-use Rattle.demands.proofs.Planned.{plan-in-rows, run-accepted, list-in-rows}
+use Rattle.demands.proofs.Planned.{plan_in_rows, run_accepted, list_in_rows}
 use Rattle.demands.proofs.Demand2.{demand2_walk}
-use Rattle.demands.proofs.Judged.{judged-nothing}
+use Rattle.demands.proofs.Judged.{judged_nothing}
 use Rattle.demands.proofs.Multiplied.{multiplied_wants}
 
 -- What a report says: the run is accepted, the list in the rows is its least, and the rest is that list's walk.
 module _ (r : Run) (before : Rows) (answer : Answer) (after : Rows) (reports : Reports r before answer after) where
   planned : Planned r before answer after
-  planned = plan-in-rows r before answer after reports.plans reports.accepts
+  planned = plan_in_rows r before answer after reports.plans reports.accepts
 
   good : GoodRun r
-  good = accepted_run r (run-accepted r before answer after reports.plans reports.accepts)
+  good = accepted_run r (run_accepted r before answer after reports.plans reports.accepts)
 
   walk : IsTheWalk r answer after
   walk = demand2_walk r before answer after reports.plans reports.accepts
 
   least : LeastForRun r (list_in answer after)
-  least = rw (list-in-rows r planned.list before answer after planned.says planned.rows) planned.least
+  least = rw (list_in_rows r planned.list before answer after planned.says planned.rows) planned.least
 
 on_one_tape : (r r' : Run) → OneTape r r' → Laws.OneTape r r'
 on_one_tape r r' t = record { starts = t.starts; lengths = t.lengths; aggregates = t.aggregates; head = t.head; turn = t.turn }
@@ -56,15 +56,15 @@ module _ (c : ℕ) (some : 1 ≤ c) (many r : Run) (before before' : Rows) (answ
   same_wants : (many.numbers ≡ r.numbers) × (many.counts ≡ map (λ n. c * n) r.counts)
   same_wants =
       multiplied_wants c many r some
-      (judged-nothing many (run-accepted many before answer after says.plans says.accepts))
-      (judged-nothing r (run-accepted r before' answer' after' says'.plans says'.accepts))
+      (judged_nothing many (run_accepted many before answer after says.plans says.accepts))
+      (judged_nothing r (run_accepted r before' answer' after' says'.plans says'.accepts))
       times-over
 
   wants : want_stops_of many ≡ allScaled c (want_stops_of r)
-  wants = wants-multiplied c many r (on_one_tape many r tape) same_wants.0 same_wants.1
+  wants = wants_multiplied c many r (on_one_tape many r tape) same_wants.0 same_wants.1
 
   stops : stops_of many ≡ allScaled c (stops_of r)
-  stops = stops-multiplied c many r (on_one_tape many r tape) same_wants.0 same_wants.1
+  stops = stops_multiplied c many r (on_one_tape many r tape) same_wants.0 same_wants.1
 
   same_list_here : list_in answer after ≡ list_in answer' after'
   same_list_here =
@@ -72,7 +72,7 @@ module _ (c : ℕ) (some : 1 ≤ c) (many r : Run) (before before' : Rows) (answ
       (rw (stops, tape.turn, tape.head) (least_scaled c some r.turn r.head (stops_of r) (list_in answer' after') (least r before' answer' after' says')))
 
   same_legs : legs_of (stops_of many) (list_in answer after) ≡ legs_of (stops_of r) (list_in answer' after')
-  same_legs = rw (stops, same_list_here) (legs-scaled c (stops_of r) (list_in answer' after'))
+  same_legs = rw (stops, same_list_here) (legs_scaled c (stops_of r) (list_in answer' after'))
 
   -- The walk of the run's list from its head, at its price; the other's is the same.
   abbrev gs : List Leg
@@ -82,13 +82,13 @@ module _ (c : ℕ) (some : 1 ≤ c) (many r : Run) (before before' : Rows) (answ
   same_walk = rw (same_legs, tape.turn, tape.head)
 
   same_times : times_of many.turn (head_at many.head) (legs_of (stops_of many) (list_in answer after)) (want_stops_of many) ≡ times_of r.turn (head_at r.head) gs (want_stops_of r)
-  same_times = rw (same_legs, wants, tape.turn, tape.head) (times-scaled c r.turn (head_at r.head) gs (want_stops_of r))
+  same_times = rw (same_legs, wants, tape.turn, tape.head) (times_scaled c r.turn (head_at r.head) gs (want_stops_of r))
 
   legs_told : legs_for (legs_of (stops_of many) (list_in answer after)) (want_stops_of many) ≡ legs_for gs (want_stops_of r)
-  legs_told = rw (same_legs, wants) (told-scaled c gs (want_stops_of r))
+  legs_told = rw (same_legs, wants) (told_scaled c gs (want_stops_of r))
 
   sum_times_c : list_sum many.turn many.head (stops_of many) (list_in answer after) ≡ c * list_sum r.turn r.head (stops_of r) (list_in answer' after')
-  sum_times_c = rw (stops, same_list_here, tape.turn, tape.head) (list-sum-scaled c r.turn r.head (stops_of r) (list_in answer' after'))
+  sum_times_c = rw (stops, same_list_here, tape.turn, tape.head) (list_sum_scaled c r.turn r.head (stops_of r) (list_in answer' after'))
 
   first_wants : (row : List ℕ) → take (length r.numbers) row ≡ take (length many.numbers) row
   first_wants row = ap (λ ns. take (length ns) row) (sym same_wants.0)

@@ -23,23 +23,23 @@ use Rattle.walk.specs.Walk.{head_at, times_of, legs_for}
 use Rattle.walk.specs.Detours.{legs_of}
 use Rattle.planner.specs.Plan.{room_for, plan_verdict, Planned, Plans}
 use Rattle.planner.specs.Rows.{Rows}
-use Rattle.planner.proofs.Determined.{plan-determined}
+use Rattle.planner.proofs.Determined.{plan_determined}
 use Rattle.least.proofs.LeastList.{least_unique}
 use Rattle.engine_plain.specs.Plain.{PlainRows, plain_reads, most_plain_wants, uneven_wants, short_plain_rows, plain_verdict, plain_rows_with, PlainPlanned, PlainPlans}
 use Rattle.engine_plain.proofs.Checks.{late_behind}
-use Rattle.engine_plain.proofs.Determined.{plain-determined}
+use Rattle.engine_plain.proofs.Determined.{plain_determined}
 use Rattle.runs.proofs.Judged.{GoodRun, accepted_run}
 use Rattle.demands.specs.RefusalTable.{RunApplies, FirstThatApplies, here, later}
 use Rattle.demands.specs.Demand1.{ByTheTable}
 use Rattle.demands.specs.Demand2.{list_in, IsTheWalk, IsLeast}
 use Rattle.demands.specs.Plain.{with_room, words_for, plain_order, PlainApplies, SameAnswer, PlainWalks, Demand1Plain, Demand1PlainIff, PlainAsPlanned, PlannerWithRoom, Demand2Plain, Demand2PlainOne, Demand3Plain}
-use Rattle.demands.proofs.Counted.{has-stops, stops-one}
+use Rattle.demands.proofs.Counted.{has_stops, stops_one}
 use Rattle.demands.proofs.Tests.{Tells, tells_below, tells_either, tells_regrouped}
-use Rattle.demands.proofs.Checks.{refused-iff, decides_if, decides_reworded, Finds, finds-none, finds-first}
+use Rattle.demands.proofs.Checks.{refused_iff, decides_if, decides_reworded, Finds, finds_none, finds_first}
 use Rattle.demands.proofs.Conditions.{rows_unfit}
-use Rattle.demands.proofs.Judged.{table-finds, run-finds, run_small, want-rows-only}
+use Rattle.demands.proofs.Judged.{table_finds, run_finds, run_small, want_rows_only}
 use Rattle.demands.proofs.Demand1.{refusal_only_place, tells_reads}
-use Rattle.demands.proofs.Planned.{plan-in-rows, list-in-rows}
+use Rattle.demands.proofs.Planned.{plan_in_rows, list_in_rows}
 use Rattle.demands.proofs.Demand2.{demand2_walk, demand2_least}
 use Rattle.demands.proofs.Demand3.{demand3}
 
@@ -69,18 +69,18 @@ module _ (r : Run) (rows : PlainRows) where
     short_row p h =
         rw h.0
         (⊎_elim (⊎_elim PlainApplies.short_times PlainApplies.short_legs)
-        (⊎_elim (PlainApplies.short_starts (has-stops r good)) (PlainApplies.short_ends (has-stops r good)))
+        (⊎_elim (PlainApplies.short_starts (has_stops r good)) (PlainApplies.short_ends (has_stops r good)))
         h.1)
 
     row_short_here : (p : ℕ) → PlainApplies r rows ShortRow p → (p ≡ 0) × IsShort
     row_short_here p (PlainApplies.run h) = absurd (omega (arith, run_small r h))
     row_short_here p (PlainApplies.short_times h) = (refl, inl (inl h))
     row_short_here p (PlainApplies.short_legs h) = (refl, inl (inr h))
-    row_short_here p (PlainApplies.short_starts s h) = (refl, inr (inl (rw (stops-one r good s) at h)))
-    row_short_here p (PlainApplies.short_ends s h) = (refl, inr (inr (rw (stops-one r good s) at h)))
+    row_short_here p (PlainApplies.short_starts s h) = (refl, inr (inl (rw (stops_one r good s) at h)))
+    row_short_here p (PlainApplies.short_ends s h) = (refl, inr (inr (rw (stops_one r good s) at h)))
 
-  tells_short : Tells (short_plain_rows (length r.numbers) (length (stops_of r)) rows) IsShort
-  tells_short =
+  tells_short_here : Tells (short_plain_rows (length r.numbers) (length (stops_of r)) rows) IsShort
+  tells_short_here =
       let k = length r.numbers in
       let stops = length (stops_of r) in
       let reads = short_read_rows k (plain_reads rows) in
@@ -103,18 +103,18 @@ module _ (r : Run) (rows : PlainRows) where
       drop_front late.2
       (drop_front late.1
       (drop_front late.0
-      (run-finds r (PlainApplies r rows) (λ k p. PlainApplies.run) plain_of_run (ShortRow ∷ []) (rows_check ∷ [])
-      (λ a. finds-first (PlainApplies r rows) [] refl (decides_reworded (short_row (accepted_run r a)) (row_short_here (accepted_run r a)) (decides_if _ ShortRow tells_short)) (λ b. finds-none (PlainApplies r rows))))))
+      (run_finds r (PlainApplies r rows) (λ k p. PlainApplies.run) plain_of_run (ShortRow ∷ []) (rows_check ∷ [])
+      (λ a. finds_first (PlainApplies r rows) [] refl (decides_reworded (short_row (accepted_run r a)) (row_short_here (accepted_run r a)) (decides_if _ ShortRow tells_short_here)) (λ b. finds_none (PlainApplies r rows))))))
 
   plain_finds : Finds (PlainApplies r rows) plain_order (plain_verdict r rows)
   unfolding plain_verdict rows_check
   plain_finds =
       let over = refuse_if (ltb most_plain_wants (length r.numbers)) OverEightWants in
-      table-finds r (PlainApplies r rows) (λ k p l. PlainApplies.run) (λ k p l h. plain_of_run k p (omega arith) h)
+      table_finds r (PlainApplies r rows) (λ k p l. PlainApplies.run) (λ k p l h. plain_of_run k p (omega arith) h)
       (WantRows ∷ OverEightWants ∷ BadWant ∷ TooManyReads ∷ TurnPrice ∷ HeadPlace ∷ ShortRow ∷ []) (refuse_if (uneven_wants r) WantRows ∷ over ∷ judge_of r ∷ rows_check ∷ [])
-      (λ t. finds-first (PlainApplies r rows) (over ∷ judge_of r ∷ rows_check ∷ []) refl
-      (decides_reworded (λ p h. rw h.0 (PlainApplies.run (RunApplies.want_rows h.1))) (λ p h. want-rows-only r p (plain_of_run WantRows p (omega arith) h)) (decides_if (uneven_wants r) WantRows (rows_unfit most_wants (length r.numbers) (length r.counts))))
-      (λ u. finds-first (PlainApplies r rows) (judge_of r ∷ rows_check ∷ []) refl
+      (λ t. finds_first (PlainApplies r rows) (over ∷ judge_of r ∷ rows_check ∷ []) refl
+      (decides_reworded (λ p h. rw h.0 (PlainApplies.run (RunApplies.want_rows h.1))) (λ p h. want_rows_only r p (plain_of_run WantRows p (omega arith) h)) (decides_if (uneven_wants r) WantRows (rows_unfit most_wants (length r.numbers) (length r.counts))))
+      (λ u. finds_first (PlainApplies r rows) (judge_of r ∷ rows_check ∷ []) refl
       (decides_reworded (λ p h. rw h.0 (PlainApplies.over_eight h.1)) eight_over (decides_if _ OverEightWants (tells_below 8 (length r.numbers))))
       (λ v. behind_finds t (accepts_if (uneven_wants r) WantRows refl u))))
 
@@ -179,7 +179,7 @@ module _ (r : Run) (rows : PlainRows) where
       -- The list in the rows.
       plain_list : list_in answer (with_room after []) ≡ plain_in_rows.list
       plain_list =
-          list-in-rows r plain_in_rows.list (with_room rows some_room_here) answer (with_room after (replicate (room_for r) 0 ++ drop (room_for r) some_room_here)) plain_in_rows.says
+          list_in_rows r plain_in_rows.list (with_room rows some_room_here) answer (with_room after (replicate (room_for r) 0 ++ drop (room_for r) some_room_here)) plain_in_rows.says
           (ap (λ x. with_room x (replicate (room_for r) 0 ++ drop (room_for r) some_room_here)) plain_in_rows.rows)
 
 pub demand1_plain : Demand1Plain
@@ -187,7 +187,7 @@ demand1_plain r before answer after plans = plain_says r before answer after pla
 
 pub plain_refused_iff : Demand1PlainIff
 plain_refused_iff r before answer after plans =
-    refused-iff (PlainApplies r before) (demand1_plain r before answer after plans).first (refl, (refl, (refl, (refl, (refl, (refl, (refl, (refl, (refl, tt)))))))))
+    refused_iff (PlainApplies r before) (demand1_plain r before answer after plans).first (refl, (refl, (refl, (refl, (refl, (refl, (refl, (refl, (refl, tt)))))))))
 
 pub plain_as_planned : PlainAsPlanned
 plain_as_planned r before answer after lent planned rows plans accepts plans' accepts' =
@@ -202,7 +202,7 @@ plain_as_planned r before answer after lent planned rows plans accepts plans' ac
     p = plain_in_rows r before answer after plans accepts
 
     q : Planned r lent planned rows
-    q = plan-in-rows r lent planned rows plans' accepts'
+    q = plan_in_rows r lent planned rows plans' accepts'
 
     one : p.list ≡ q.list
     one = least_unique r.turn r.head (stops_of r) p.list q.list p.least q.least
@@ -214,13 +214,13 @@ plain_as_planned r before answer after lent planned rows plans accepts plans' ac
     walk' = demand2_walk r lent planned rows plans' accepts'
 
     lists_are : list_in answer (with_room after []) ≡ list_in planned rows
-    lists_are = plain_list r before answer after plans accepts ∙ one ∙ sym (list-in-rows r q.list lent planned rows q.says q.rows)
+    lists_are = plain_list r before answer after plans accepts ∙ one ∙ sym (list_in_rows r q.list lent planned rows q.says q.rows)
 
 pub planner_with_room : PlannerWithRoom
 planner_with_room r before answer after stops room planned rows plans accepts has enough plans' =
     let passes = plain_accepts_run r before (plain_passes r before answer after plans accepts) in
-    let words : words_for r stops ≡ room_for r = ap (words_for r) (stops-one r (accepted_run r passes) has) in
-    rw words (plan-determined r (with_room before room) planned answer rows _ plans' (as_plan r before answer after plans accepts room (rw words at enough)))
+    let words : words_for r stops ≡ room_for r = ap (words_for r) (stops_one r (accepted_run r passes) has) in
+    rw words (plan_determined r (with_room before room) planned answer rows _ plans' (as_plan r before answer after plans accepts room (rw words at enough)))
 
 pub demand2_plain : Demand2Plain
 demand2_plain r before answer after plans accepts =
@@ -229,7 +229,7 @@ demand2_plain r before answer after plans accepts =
     record { walk = demand2_walk r _ answer _ plan accepts; least = record { smallest = least.smallest; first = least.first } }
 
 pub demand2_plain_one : Demand2PlainOne
-demand2_plain_one r before answer answer' after after' plans plans' = plain-determined r before answer answer' after after' plans plans'
+demand2_plain_one r before answer answer' after after' plans plans' = plain_determined r before answer answer' after after' plans plans'
 
 pub demand3_plain : Demand3Plain
 demand3_plain first second before answer after accepted plans accepts asks gs moves serves =

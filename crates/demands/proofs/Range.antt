@@ -15,20 +15,20 @@ use Rattle.runs.proofs.Joined.{reads_of}
 use Rattle.runs.proofs.Entries.{length_list}
 use Rattle.runs.proofs.Judged.{GoodRun, accepted_run}
 use Rattle.runs.proofs.Sound.{Sound, sound_any}
-use Rattle.runs.proofs.Stops.{run_sound, stops-few, stops-reads}
+use Rattle.runs.proofs.Stops.{run_sound, stops_few, stops_reads}
 use Rattle.figures.specs.Figures.{without, figures_answer, figures_row}
 use Rattle.demands.specs.Buys.{IsLess, over, under, FigureWithin, gained, lost, FiguresInRange, smallest_bought}
-use Rattle.demands.proofs.Buys.{without_is, figures-run, figures_tell, bought_worked}
+use Rattle.demands.proofs.Buys.{without_is, figures_run, figures_tell, bought_worked}
 use Rattle.least.specs.Least.{list_sum}
 use Rattle.least.specs.Recurrence.{W, trip, file_at, left_at, right_at, count_at}
 use Rattle.least.proofs.Plan.{lagAfter}
-use Rattle.least.proofs.Times.{Spaced, starts-rise, planTime}
+use Rattle.least.proofs.Times.{Spaced, starts_rise, planTime}
 use Rattle.least.proofs.Sums.{W-suc, W-front}
 use Rattle.least.proofs.Identity.{runSum}
 use Rattle.least.proofs.Lists.{none_wanted, PlanOf, parse}
 use Rattle.least.proofs.Walks.{sound_spaced, sound_owned, walk_sum}
 use Rattle.demands.proofs.Removed.{Removed, removed}
-use Rattle.demands.proofs.Laps.{many, wide, spans, stops_taken, lag-by-spans, spans-wide, spans-many}
+use Rattle.demands.proofs.Laps.{many, wide, spans, stops_taken, lag_by_spans, spans_wide, spans_many}
 
 -- Counts times times, where every time below c is later by τ than another, and from c on the other is later by at most x.
 module _ (C tP tQ : ℕ → ℕ) (τ : ℕ) where
@@ -220,7 +220,7 @@ module _ (U m n : ℕ) (stops : List Stop) (ok : Sound stops m) (size : length s
   parent_ends : right_at stops out.parent ≤ right_at stops out.d
   parent_ends =
       by_cases (dec_lt out.parent out.d)
-      (λ h. omega (arith, starts-rise (left_at stops) (right_at stops) n spaced (suc out.parent) out.d h (omega (arith, first_in_here)), apart out.parent (omega (arith, first_in_here)), spaced.extends out.d (omega (arith, first_in_here))))
+      (λ h. omega (arith, starts_rise (left_at stops) (right_at stops) n spaced (suc out.parent) out.d h (omega (arith, first_in_here)), apart out.parent (omega (arith, first_in_here)), spaced.extends out.d (omega (arith, first_in_here))))
       (λ h. let z : out.parent ≡ out.d = omega (arith, out.inside) in rw z (omega arith))
 
   parent_long : left_at stops out.parent < right_at stops out.parent
@@ -233,7 +233,7 @@ module _ (U m n : ℕ) (stops : List Stop) (ok : Sound stops m) (size : length s
   end_on : left_at stops first < right_at stops out.t
   end_on =
       by_cases (dec_lt first out.t)
-      (λ h. omega (arith, starts-rise (left_at stops) (right_at stops) n spaced first out.t (omega arith) out.high, spaced.extends out.t out.high))
+      (λ h. omega (arith, starts_rise (left_at stops) (right_at stops) n spaced first out.t (omega arith) out.high, spaced.extends out.t out.high))
       (λ h. let z : first ≡ out.t = omega (arith, out.onward) in rw (← z) (spaced.extends first first_in_here))
 
   trip_long : 2 * U + 2 ≤ around
@@ -285,23 +285,23 @@ module _ (U m n : ℕ) (stops : List Stop) (ok : Sound stops m) (size : length s
   between_many : between + laps * laps ≤ laps * back
   between_many =
       let room : laps * (right_at stops out.d - right_at stops out.parent + 1) ≤ laps * back = mul-le-mul (le_refl laps) within_back in
-      omega (arith, spans-many (left_at stops) (right_at stops) U n spaced apart out.rest out.parent out.d out.within (omega (arith, first_in_here)))
+      omega (arith, spans_many (left_at stops) (right_at stops) U n spaced apart out.rest out.parent out.d out.within (omega (arith, first_in_here)))
 
   between_wide : between ≤ wide out.rest out.d * back + back
   between_wide =
       omega (
         arith,
         within_back,
-        spans-wide (left_at stops) (right_at stops) U n spaced apart out.rest out.parent out.d back out.within (omega (arith, first_in_here)) (omega (arith, parent_left, parent_long)),
+        spans_wide (left_at stops) (right_at stops) U n spaced apart out.rest out.parent out.d back out.within (omega (arith, first_in_here)) (omega (arith, parent_left, parent_long)),
       )
 
   -- How much longer its stops wait without it.
   lag_between : lagAfter (left_at stops) (right_at stops) U out.rest out.d 0 ≡ 2 * (laps * U + between)
-  lag_between = omega (arith, lag-by-spans (left_at stops) (right_at stops) U out.rest out.parent out.d 0 out.within)
+  lag_between = omega (arith, lag_by_spans (left_at stops) (right_at stops) U out.rest out.parent out.d 0 out.within)
 
-  reads_later : (j : ℕ) → first ≤ j → j < suc n
+  reads_later_here : (j : ℕ) → first ≤ j → j < suc n
       → planTime (left_at stops) (right_at stops) U out.plan 0 n m j ≤ planTime (left_at stops) (right_at stops) U parsed.plan 0 n m j + (2 * back + 2 * (laps * U + between))
-  reads_later j h k =
+  reads_later_here j h k =
       by_cases (dec_le j out.t)
       (λ g. omega (arith, out.sooner m j (omega arith) g (omega arith) (reached j (omega arith)), lag_between))
       (λ g. omega (arith, out.beyond m j (omega arith) (omega arith) (reached j (omega arith))))
@@ -311,7 +311,7 @@ module _ (U m n : ℕ) (stops : List Stop) (ok : Sound stops m) (size : length s
       rw (sum_with, sum_without_here)
       (enough _ _ (W (count_at stops) first) (W (count_at stops) (suc n)) around (2 * back + 2 * (laps * U + between))
       (sooner_sum (count_at stops) (planTime (left_at stops) (right_at stops) U parsed.plan 0 n m) (planTime (left_at stops) (right_at stops) U out.plan 0 n m) around
-      (2 * back + 2 * (laps * U + between)) first (suc n) (omega (arith, first_in_here)) reads_first reads_later)
+      (2 * back + 2 * (laps * U + between)) first (suc n) (omega (arith, first_in_here)) reads_first reads_later_here)
       left_part
       (largest back U between (W (count_at stops) (suc n) - W (count_at stops) first) (omega (arith, spaced.extends first first_in_here, reached first first_in_here)) cheap
       laps (wide out.rest out.d) first around (W (count_at stops) first) between_many between_wide
@@ -338,8 +338,8 @@ near_of_stops U m (s ∷ ss) ok few near cheap reads list formed i l =
 near_of_run : (r : Run) → GoodRun r → (list : List Detour) → WellFormed (stops_of r) list → (i : ℕ) → i < length list
     → Near (list_sum r.turn r.head (stops_of r) list) (list_sum r.turn r.head (stops_of r) (without i list))
 near_of_run r good list formed i l =
-    near_of_stops r.turn r.head (stops_of r) (run_sound r good) (omega (arith, stops-few r good, good.wants.few)) good.start.near good.start.cheap
-    (omega (arith, reads_all (stops_of r), stops-reads r good, good.wants.reads)) list formed i l
+    near_of_stops r.turn r.head (stops_of r) (run_sound r good) (omega (arith, stops_few r good, good.wants.few)) good.start.near good.start.cheap
+    (omega (arith, reads_all (stops_of r), stops_reads r good, good.wants.reads)) list formed i l
 
 less_in_range : {a b : ℕ} {figure : ℤ} → IsLess a b figure → Near b a → FigureWithin figure
 less_in_range (over {n} e) near = gained {n = n} (omega (arith, near.above))
@@ -349,7 +349,7 @@ pub figures_in_range : FiguresInRange
 figures_in_range r froms tos row answer out says fills accepts i l =
     let told = figures_tell r froms tos row answer out says fills accepts in
     let list = list_of froms tos in
-    let near = near_of_run r (accepted_run r (figures-run r froms tos row answer says accepts)) list told.formed i (omega (arith, length_list froms tos told.even)) in
+    let near = near_of_run r (accepted_run r (figures_run r froms tos row answer says accepts)) list told.formed i (omega (arith, length_list froms tos told.even)) in
     less_in_range (told.each i l).less (rw (without_is list i) at near)
 
 -- The worked case at the lower end meets the hypotheses.

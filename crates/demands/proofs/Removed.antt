@@ -12,7 +12,7 @@ use borrow.Author.Tests.{le-leb, lt-leb}
 use Rattle.figures.specs.Figures.{without}
 use Rattle.least.specs.Recurrence.{Plan, empty, skip, detour, trip, plan_detours}
 use Rattle.least.proofs.Plan.{Over, lagAfter, legTime, timeIn}
-use Rattle.least.proofs.Times.{Spaced, starts-rise, legTime-exact, planTime, lag-grows, time-in-inner, time-in-rest, unread-right, unread-left}
+use Rattle.least.proofs.Times.{Spaced, starts_rise, leg_time_exact, planTime, lag_grows, time_in_inner, time_in_rest, unread_right, unread_left}
 
 -- A list without an entry of its front, or of its back.
 module _ {A : Type 0} where
@@ -112,8 +112,8 @@ module _ (L R : ℕ → ℕ) (U : ℕ) where
   unfolding graft timeIn
   graft_high a d rest empty b y j e l o r h =
       by_cases (dec_le b d)
-      (λ k. let q : b ≡ d = omega arith in rw (graft_ended d rest b k, q) (unread-right L R U rest a d y j e r h))
-      (λ k. let q : b ≡ suc d = omega arith in rw (graft_skipped d rest b (omega arith), q) (unread-right L R U rest a d y j e r h))
+      (λ k. let q : b ≡ d = omega arith in rw (graft_ended d rest b k, q) (unread_right L R U rest a d y j e r h))
+      (λ k. let q : b ≡ suc d = omega arith in rw (graft_skipped d rest b (omega arith), q) (unread_right L R U rest a d y j e r h))
   graft_high a d rest (skip p) zero y j e l o r h = absurd o
   graft_high a d rest (skip p) (suc b) y j e l o r h = graft_high a d rest p b y j e (omega (arith, o.0)) o.1 r h
   graft_high a d rest (detour c inner p) zero y j e l o r h = absurd o
@@ -140,8 +140,8 @@ module _ (L R : ℕ → ℕ) (U : ℕ) where
   module _ (n : ℕ) (spaced : Spaced L R n) where
     leg_shift_here : (y t a j : ℕ) → R j ≤ y → a ≤ j → j ≤ n → legTime L R U (y + t) a j ≡ legTime L R U y a j + t
     leg_shift_here y t a j r l h =
-        let reach : L a ≤ y = omega (arith, starts-rise L R n spaced a j l h, spaced.extends j h) in
-        omega (arith, legTime-exact L R n spaced U y a j reach l h, legTime-exact L R n spaced U (y + t) a j (omega arith) l h)
+        let reach : L a ≤ y = omega (arith, starts_rise L R n spaced a j l h, spaced.extends j h) in
+        omega (arith, leg_time_exact L R n spaced U y a j reach l h, leg_time_exact L R n spaced U (y + t) a j (omega arith) l h)
 
     -- A head that comes later by t reads everything later by t.
     time_shift : (p : Plan) (a b y t j e : ℕ) → Over p a b → j ≤ n → R j ≤ y → timeIn L R U p b (y + t) j (e + t) ≡ timeIn L R U p b y j e + t
@@ -151,7 +151,7 @@ module _ (L R : ℕ → ℕ) (U : ℕ) where
     time_shift (skip p) a (suc b) y t j e o h r = time_shift p a b y t j e o.1 h r
     time_shift (detour d inner rest) a zero y t j e o h r = absurd o
     time_shift (detour d inner rest) a (suc b) y t j e o h r =
-        let grown = lag-grows L R U inner b y in
+        let grown = lag_grows L R U inner b y in
         let on : lagAfter L R U inner b (y + t) + trip L R U (suc d) (suc b) ≡ lagAfter L R U inner b y + trip L R U (suc d) (suc b) + t = omega (arith, lag_shift inner b y t) in
         by_cases (dec_le j d)
         (λ k. rw (le-leb j d k, on) (time_shift rest a d (lagAfter L R U inner b y + trip L R U (suc d) (suc b)) t j e o.3 h (omega arith)))
@@ -164,7 +164,7 @@ module _ (L R : ℕ → ℕ) (U : ℕ) where
 
     plan_shift : (p : Plan) (a b y t j : ℕ) → Over p a b → a ≤ j → j ≤ n → R j ≤ y → planTime L R U p a b (y + t) j ≡ planTime L R U p a b y j + t
     plan_shift p a b y t j o l h r =
-        let grown = lag-grows L R U p b y in
+        let grown = lag_grows L R U p b y in
         rw (lag_shift p b y t, leg_shift_here (lagAfter L R U p b y) t a j (omega arith) l h) (time_shift p a b y t j (legTime L R U (lagAfter L R U p b y) a j) o h r)
 
     -- A plan over (a, b] without the detour at index i, from stop suc d to stop t. It lies inside a leg from stop p, and `rest` is done between the two.
@@ -225,12 +225,12 @@ module _ (L R : ℕ → ℕ) (U : ℕ) where
       whole_left : (y j : ℕ) → j ≤ d → planTime L R U whole a (suc b) y j ≡ planTime L R U after a d (lag_before y + trip L R U (suc d) (suc b)) j
       unfolding whole lag_before
       whole_left y j h =
-          time-in-rest L R U d b y j _ inner after h
+          time_in_rest L R U d b y j _ inner after h
           ∙ ap (λ x. timeIn L R U after d (lagAfter L R U inner b y + trip L R U (suc d) (suc b)) j (legTime L R U x a j)) (whole_on y)
 
       whole_in : (y j : ℕ) → d < j → j ≤ suc b → planTime L R U whole a (suc b) y j ≡ timeIn L R U inner b y j (legTime L R U (lag_before y) (suc d) j)
       unfolding whole lag_before
-      whole_in y j h k = time-in-inner L R U d b y j _ inner after h k
+      whole_in y j h k = time_in_inner L R U d b y j _ inner after h k
 
       grafted_left : (y j : ℕ) → j ≤ d → planTime L R U grafted a (suc b) y j ≡ planTime L R U after a d (lag_before y) j
       unfolding grafted lag_before timeIn lagAfter
@@ -252,14 +252,14 @@ module _ (L R : ℕ → ℕ) (U : ℕ) where
           → legTime L R U (lagAfter L R U after d (lag_before y)) a j ≡ legTime L R U (lag_before y) (suc d) j + (2 * (L (suc d) - L a) + lagAfter L R U after d 0)
       unfolding lag_before
       leg_later y j h k r =
-          let grown = lag-grows L R U inner b y in
+          let grown = lag_grows L R U inner b y in
           let more = after_lag_here y in
-          let reach : L (suc d) ≤ y = omega (arith, starts-rise L R n spaced (suc d) j h k, spaced.extends j k) in
-          let left : L a ≤ L (suc d) = starts-rise L R n spaced a (suc d) (omega arith) (omega arith) in
+          let reach : L (suc d) ≤ y = omega (arith, starts_rise L R n spaced (suc d) j h k, spaced.extends j k) in
+          let left : L a ≤ L (suc d) = starts_rise L R n spaced a (suc d) (omega arith) (omega arith) in
           omega (
             arith,
-            legTime-exact L R n spaced U (lagAfter L R U after d (lagAfter L R U inner b y)) a j (omega arith) (omega arith) k,
-            legTime-exact L R n spaced U (lagAfter L R U inner b y) (suc d) j (omega arith) h k,
+            leg_time_exact L R n spaced U (lagAfter L R U after d (lagAfter L R U inner b y)) a j (omega arith) (omega arith) k,
+            leg_time_exact L R n spaced U (lagAfter L R U inner b y) (suc d) j (omega arith) h k,
           )
 
       own_list : without (length (plan_detours F inner b)) (plan_detours F inner b ++ record { from = F (suc d); to = F (suc b) } ∷ plan_detours F after d) ≡ plan_detours F inner b ++ plan_detours F after d
@@ -268,16 +268,16 @@ module _ (L R : ℕ → ℕ) (U : ℕ) where
 
       grown : (y j : ℕ) → R j ≤ y → R j ≤ lag_before y
       unfolding lag_before
-      grown y j r = omega (arith, lag-grows L R U inner b y)
+      grown y j r = omega (arith, lag_grows L R U inner b y)
 
       -- Right of the detour the leg from a reads, sooner by the trip.
       past : (y j : ℕ) → suc b < j → j ≤ n → R j ≤ y → planTime L R U whole a (suc b) y j ≡ planTime L R U grafted a (suc b) y j + trip L R U (suc d) (suc b)
       unfolding whole
       past y j h k r =
-          unread-right L R U whole a (suc b) y j _ (low, onward, o, q) h
+          unread_right L R U whole a (suc b) y j _ (low, onward, o, q) h
           ∙ ap (λ x. legTime L R U x a j) (whole_lag y)
-          ∙ leg_shift_here (lagAfter L R U after d (lag_before y)) (trip L R U (suc d) (suc b)) a j (omega (arith, grown y j r, lag-grows L R U after d (lag_before y))) (omega arith) k
-          ∙ ap (λ x. x + trip L R U (suc d) (suc b)) (sym (unread-right L R U grafted a (suc b) y j _ grafted_over h ∙ ap (λ x. legTime L R U x a j) (grafted_lag y)))
+          ∙ leg_shift_here (lagAfter L R U after d (lag_before y)) (trip L R U (suc d) (suc b)) a j (omega (arith, grown y j r, lag_grows L R U after d (lag_before y))) (omega arith) k
+          ∙ ap (λ x. x + trip L R U (suc d) (suc b)) (sym (unread_right L R U grafted a (suc b) y j _ grafted_over h ∙ ap (λ x. legTime L R U x a j) (grafted_lag y)))
 
       inside_most : (y j : ℕ) → d < j → j ≤ suc b → j ≤ n → R j ≤ y
           → planTime L R U whole a (suc b) y j ≤ planTime L R U grafted a (suc b) y j + trip L R U (suc d) (suc b)
@@ -311,7 +311,7 @@ module _ (L R : ℕ → ℕ) (U : ℕ) where
                 (time_from inner (suc d) b y j _ _ _ o (omega (arith, leg_later y j h k r)));
             start = λ y k r.
                 rw (whole_in y (suc d) (omega arith) (omega arith), grafted_right y (suc d) (omega arith))
-                (rw (unread-left L R U inner (suc d) b y (suc d) _ o (omega arith), unread-left L R U inner (suc d) b y (suc d) (legTime L R U (lagAfter L R U after d (lag_before y)) a (suc d)) o (omega arith))
+                (rw (unread_left L R U inner (suc d) b y (suc d) _ o (omega arith), unread_left L R U inner (suc d) b y (suc d) (legTime L R U (lagAfter L R U after d (lag_before y)) a (suc d)) o (omega arith))
                 (omega (arith, leg_later y (suc d) (omega arith) k r)));
             beyond = λ y j h k r.
                 omega (arith, past y j h k r);
@@ -329,13 +329,13 @@ module _ (L R : ℕ → ℕ) (U : ℕ) where
       -- The times of a detour's plan: of the stops left of it, of those in it, of those right of it.
       left_time : (p p' : Plan) (y j : ℕ) → j ≤ d → planTime L R U (both p p') a (suc b) y j ≡ planTime L R U p' a d (lagAfter L R U p b y + trip L R U (suc d) (suc b)) j
       unfolding lagAfter
-      left_time p p' y j h = time-in-rest L R U d b y j _ p p' h
+      left_time p p' y j h = time_in_rest L R U d b y j _ p p' h
 
       in_time_here : (p p' : Plan) (y j : ℕ) → d < j → j ≤ suc b → planTime L R U (both p p') a (suc b) y j ≡ planTime L R U p (suc d) b y j
-      in_time_here p p' y j h k = time-in-inner L R U d b y j _ p p' h k
+      in_time_here p p' y j h k = time_in_inner L R U d b y j _ p p' h k
 
       right_time : (p p' : Plan) (y j : ℕ) → Over p (suc d) b → Over p' a d → suc b < j → planTime L R U (both p p') a (suc b) y j ≡ legTime L R U (lagAfter L R U (both p p') (suc b) y) a j
-      right_time p p' y j v w h = unread-right L R U (both p p') a (suc b) y j _ (over_both p p' v w) h
+      right_time p p' y j v w h = unread_right L R U (both p p') a (suc b) y j _ (over_both p p' v w) h
 
       both_lag : (p p' : Plan) (y : ℕ) → lagAfter L R U (both p p') (suc b) y ≡ lagAfter L R U p' d (lagAfter L R U p b y + trip L R U (suc d) (suc b))
       unfolding lagAfter
@@ -346,7 +346,7 @@ module _ (L R : ℕ → ℕ) (U : ℕ) where
       both_list p p' = refl
 
       both_grown : (p p' : Plan) (y : ℕ) → y ≤ lagAfter L R U (both p p') (suc b) y
-      both_grown p p' y = lag-grows L R U (both p p') (suc b) y
+      both_grown p p' y = lag_grows L R U (both p p') (suc b) y
 
       -- Two such plans of which the first leaves later by t: right of the detour it reads later by t.
       right_later : (p p' r r' : Plan) (y t j : ℕ) → Over p (suc d) b → Over p' a d → Over r (suc d) b → Over r' a d
@@ -372,7 +372,7 @@ module _ (L R : ℕ → ℕ) (U : ℕ) where
             let on : lagAfter L R U inner b y + trip L R U (suc d) (suc b) ≡ lagAfter L R U found.plan b y + trip L R U (suc d) (suc b) + τ = omega (arith, found.lag y) in
             left_time inner after y j h
             ∙ ap (λ z. planTime L R U after a d z j) on
-            ∙ plan_shift after a d _ τ j q x k (omega (arith, lag-grows L R U found.plan b y))
+            ∙ plan_shift after a d _ τ j q x k (omega (arith, lag_grows L R U found.plan b y))
             ∙ ap (λ z. z + τ) (sym (left_time found.plan after y j h))
 
         in_right : (y j : ℕ) → suc b < j → j ≤ n → R j ≤ y → planTime L R U (both inner after) a (suc b) y j ≡ planTime L R U (both found.plan after) a (suc b) y j + τ
@@ -432,7 +432,7 @@ module _ (L R : ℕ → ℕ) (U : ℕ) where
         lag-there y = lagAfter L R U inner b y + trip L R U (suc d) (suc b)
 
         there : (y j : ℕ) → R j ≤ y → R j ≤ lag-there y
-        there y j g = omega (arith, lag-grows L R U inner b y)
+        there y j g = omega (arith, lag_grows L R U inner b y)
 
         after_on : (y : ℕ) → lagAfter L R U (both inner after) (suc b) y ≡ lagAfter L R U (both inner found.plan) (suc b) y + σ
         after_on y = both_lag inner after y ∙ found.lag (lag-there y) ∙ ap (λ x. x + σ) (sym (both_lag inner found.plan y))

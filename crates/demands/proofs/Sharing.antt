@@ -33,7 +33,7 @@ use Rattle.demands.specs.Demand2.{IsFormed}
 use Rattle.demands.specs.Ends.{NothingWanted}
 use Rattle.demands.specs.Aggregates.{StopsByMembers, MembersShare}
 use Rattle.demands.specs.Offices.{Reports, OneTape, Shares, Multiplies, SamePlan}
-use Rattle.demands.proofs.Judged.{judged-nothing}
+use Rattle.demands.proofs.Judged.{judged_nothing}
 use Rattle.demands.proofs.AnyJudged.{takes_what_01_takes}
 use Rattle.demands.proofs.Demand3.{demand3}
 use Rattle.demands.proofs.Nothing.{price_of_nothing, plan_of_nothing}
@@ -155,7 +155,7 @@ one_leg_serves = (tt, tt)
 
 judged : (NothingApplies middle) × (NothingApplies both_members)
 unfolding judge_of any_below first_where goes_on first_member last_within want_stops join_to joined right_end
-judged = (judged-nothing middle refl, judged-nothing both_members refl)
+judged = (judged_nothing middle refl, judged_nothing both_members refl)
 
 pub unbeaten_by_stop : 61 ≤ sum_of middle.turn (head_at middle.head) one_leg (stops_of middle)
 unbeaten_by_stop =

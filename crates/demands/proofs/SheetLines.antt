@@ -21,16 +21,16 @@ use Rattle.sheet_reader.specs.declared.Reading.{Reading}
 use Rattle.sheet_reader.specs.Lines.{tape_key, head_key, turn_key, files_key, file_key, wants_key, want_key, turn_with}
 use Rattle.sheet_reader.specs.Sheet.{longest_sheet, first_bad_line, sheet_files, sheet_wants, sheet_head, sheet_turn_with, file_text, want_text, sheet_name, sheet_run_with, sheet_run}
 use Rattle.sheet_reader.specs.Reading.{sheet_verdict, read_row, RunRows, rows_verdict, SheetRead, read_name}
-use Rattle.sheet_reader.proofs.Good.{no-bad-line}
+use Rattle.sheet_reader.proofs.Good.{no_bad_line}
 use Rattle.sheet_writer.proofs.Reread.{key_value}
 use Rattle.demands.specs.Sheets.{run_read}
 use Rattle.demands.specs.Lines.{Stands, Name, Number, NumberOrNothing, Pair, Triple, LineIsBad}
 use Rattle.demands.specs.SheetLines.{two_numbers, three_numbers, PriceText, OnItsLines, BehindRead, ReadHoldsItsLines, NoBadLine, SheetHoldsItsLines, CountsAreSaid, NameIsRead}
 use Rattle.demands.proofs.Tests.{Tells}
 use Rattle.demands.proofs.Canonical.{number_text}
-use Rattle.demands.proofs.Lines.{line_read, name_flat, nothing_flat, number_flat, pair_flat, triple_flat, number_some, tells-tape, tells-turn, tells-number, tells-count, tells-pair-line, tells-triple-line}
-use Rattle.demands.proofs.FirstLine.{after_both, no_bad, no_line, none_found, line-found, wants-behind, want-behind}
-use Rattle.demands.proofs.Sheets.{sheet-passes, read-passes}
+use Rattle.demands.proofs.Lines.{line_read, name_flat, nothing_flat, number_flat, pair_flat, triple_flat, number_some, tells_tape, tells_turn, tells_number, tells_count, tells_pair_line, tells_triple_line}
+use Rattle.demands.proofs.FirstLine.{after_both, no_bad, no_line, none_found, line_found, wants_behind, want_behind}
+use Rattle.demands.proofs.Sheets.{sheet_passes, read_passes}
 
 -- A value of numbers is their text.
 pub pair_text_lem : (text : List ℕ) → Pair text → text ≡ two_numbers (value_of (before comma text)) (value_of (behind comma text))
@@ -107,7 +107,7 @@ counts_are_said sheet =
     record {
       files = λ line. ap value_of (value_read files_key refl sheet 4 Number line (number_flat line_feed refl line.value line.kind));
       wants = λ line.
-          ap (λ t. number_behind wants_key (line_of t)) (wants-behind sheet)
+          ap (λ t. number_behind wants_key (line_of t)) (wants_behind sheet)
           ∙ ap value_of (value_read wants_key refl sheet (5 + sheet_files sheet) Number line (number_flat line_feed refl line.value line.kind));
     }
 
@@ -128,15 +128,15 @@ module _ (sheet : List ℕ) (none : NoBadLine sheet) where
   many_files : length held.starts ≡ F
   many_files = length_each (λ i. first_in file_key (line_after i (file_text sheet))) F
 
-  many_wants : length held.numbers ≡ W
+  many_wants_here : length held.numbers ≡ W
   many_wants = length_each (λ i. first_in want_key (line_after i (want_text sheet))) W
 
-  file_there : (i : ℕ) → after_lines i (file_text sheet) ≡ after_lines (5 + i) sheet
+  file_there_here : (i : ℕ) → after_lines i (file_text sheet) ≡ after_lines (5 + i) sheet
   unfolding file_text
-  file_there i = after_both i 5 (5 + i) sheet refl
+  file_there_here i = after_both i 5 (5 + i) sheet refl
 
   want_there : (i : ℕ) → after_lines i (want_text sheet) ≡ after_lines (6 + F + i) sheet
-  want_there i = ap (after_lines i) (want-behind sheet) ∙ after_both i (6 + F) (6 + F + i) sheet refl
+  want_there i = ap (after_lines i) (want_behind sheet) ∙ after_both i (6 + F) (6 + F + i) sheet refl
 
   abbrev FileText : ℕ → ℕ → ℕ → ℕ → Type 0
   FileText i a b c = Stands file_key (λ text. text ≡ three_numbers a b c) sheet (5 + i)
@@ -144,10 +144,10 @@ module _ (sheet : List ℕ) (none : NoBadLine sheet) where
   file_stands : (i : ℕ) → i < F → FileText i (get_or held.starts i 0) (get_or held.lengths i 0) (get_or held.aggregates i 0)
   unfolding has
   file_stands i l =
-      let s = stands_there (tells-triple-line sheet (5 + i) file_key (omega arith) refl) (λ n. clean (5 + i) (LineIsBad.file (omega arith) (omega arith) n)) in
-      let a : get_or held.starts i 0 ≡ first_in file_key (line_after (5 + i) sheet) = each_value (λ k. first_in file_key (line_after k (file_text sheet))) F i l ∙ ap (λ t. first_in file_key (line_of t)) (file_there i) in
-      let b : get_or held.lengths i 0 ≡ middle_in file_key (line_after (5 + i) sheet) = each_value (λ k. middle_in file_key (line_after k (file_text sheet))) F i l ∙ ap (λ t. middle_in file_key (line_of t)) (file_there i) in
-      let c : get_or held.aggregates i 0 ≡ third_in file_key (line_after (5 + i) sheet) = each_value (λ k. third_in file_key (line_after k (file_text sheet))) F i l ∙ ap (λ t. third_in file_key (line_of t)) (file_there i) in
+      let s = stands_there (tells_triple_line sheet (5 + i) file_key (omega arith) refl) (λ n. clean (5 + i) (LineIsBad.file (omega arith) (omega arith) n)) in
+      let a : get_or held.starts i 0 ≡ first_in file_key (line_after (5 + i) sheet) = each_value (λ k. first_in file_key (line_after k (file_text sheet))) F i l ∙ ap (λ t. first_in file_key (line_of t)) (file_there_here i) in
+      let b : get_or held.lengths i 0 ≡ middle_in file_key (line_after (5 + i) sheet) = each_value (λ k. middle_in file_key (line_after k (file_text sheet))) F i l ∙ ap (λ t. middle_in file_key (line_of t)) (file_there_here i) in
+      let c : get_or held.aggregates i 0 ≡ third_in file_key (line_after (5 + i) sheet) = each_value (λ k. third_in file_key (line_after k (file_text sheet))) F i l ∙ ap (λ t. third_in file_key (line_of t)) (file_there_here i) in
       subst (λ x. FileText i x (get_or held.lengths i 0) (get_or held.aggregates i 0)) (sym a)
       (subst (λ y. FileText i (first_in file_key (line_after (5 + i) sheet)) y (get_or held.aggregates i 0)) (sym b)
       (subst (FileText i (first_in file_key (line_after (5 + i) sheet)) (middle_in file_key (line_after (5 + i) sheet))) (sym c) (triple_says file_key refl sheet (5 + i) s)))
@@ -155,7 +155,7 @@ module _ (sheet : List ℕ) (none : NoBadLine sheet) where
   want_stands : (i : ℕ) → i < W → Stands want_key (λ text. text ≡ two_numbers (get_or held.numbers i 0) (get_or held.counts i 0)) sheet (6 + F + i)
   unfolding has
   want_stands i l =
-      let s = stands_there (tells-pair-line sheet (6 + F + i) want_key (omega arith) refl) (λ n. clean (6 + F + i) (LineIsBad.want (omega arith) (omega arith) n)) in
+      let s = stands_there (tells_pair_line sheet (6 + F + i) want_key (omega arith) refl) (λ n. clean (6 + F + i) (LineIsBad.want (omega arith) (omega arith) n)) in
       let a : get_or held.numbers i 0 ≡ first_in want_key (line_after (6 + F + i) sheet) = each_value (λ k. first_in want_key (line_after k (want_text sheet))) W i l ∙ ap (λ t. first_in want_key (line_of t)) (want_there i) in
       let b : get_or held.counts i 0 ≡ second_in want_key (line_after (6 + F + i) sheet) = each_value (λ k. second_in want_key (line_after k (want_text sheet))) W i l ∙ ap (λ t. second_in want_key (line_of t)) (want_there i) in
       subst (λ x. Stands want_key (λ text. text ≡ two_numbers x (get_or held.counts i 0)) sheet (6 + F + i)) (sym a)
@@ -165,13 +165,13 @@ module _ (sheet : List ℕ) (none : NoBadLine sheet) where
   tape_stands : Stands tape_key (λ text. Name text × (text ≡ sheet_name sheet)) sheet 0
   unfolding sheet_name has
   tape_stands =
-      let s = stands_there (tells-tape sheet 0) (λ n. clean 0 (LineIsBad.tape refl n)) in
+      let s = stands_there (tells_tape sheet 0) (λ n. clean 0 (LineIsBad.tape refl n)) in
       record { value = s.value; rest = s.rest; is = s.is; kind = (s.kind, sym (value_read tape_key refl sheet 0 Name s (name_flat s.value s.kind))) }
 
   turn_stands : Stands turn_key (PriceText (sheet_turn_with 12000 sheet)) sheet 2
   unfolding sheet_turn_with turn_with has
   turn_stands =
-      let s = stands_there (tells-turn sheet 2) (λ n. clean 2 (LineIsBad.turn refl n)) in
+      let s = stands_there (tells_turn sheet 2) (λ n. clean 2 (LineIsBad.turn refl n)) in
       let is = value_read turn_key refl sheet 2 NumberOrNothing s (nothing_flat s.value s.kind) in
       record {
         value = s.value;
@@ -186,14 +186,14 @@ module _ (sheet : List ℕ) (none : NoBadLine sheet) where
   files_stands : Stands files_key (λ text. text ≡ decimal F) sheet 4
   unfolding sheet_files has
   files_stands =
-      let s = stands_there (tells-count sheet 4 files_key (omega arith) refl 256) (λ n. clean 4 (LineIsBad.files refl n)) in
+      let s = stands_there (tells_count sheet 4 files_key (omega arith) refl 256) (λ n. clean 4 (LineIsBad.files refl n)) in
       number_says files_key refl sheet 4 (record { value = s.value; rest = s.rest; is = s.is; kind = s.kind.0 })
 
   wants_stands : Stands wants_key (λ text. text ≡ decimal W) sheet (5 + F)
   unfolding sheet_wants has
   wants_stands =
-      let s = stands_there (tells-count sheet (5 + F) wants_key (omega arith) refl 64) (λ n. clean (5 + F) (LineIsBad.wants refl n)) in
-      subst (λ n. Stands wants_key (λ text. text ≡ decimal n) sheet (5 + F)) (ap (λ t. number_behind wants_key (line_of t)) (sym (wants-behind sheet)))
+      let s = stands_there (tells_count sheet (5 + F) wants_key (omega arith) refl 64) (λ n. clean (5 + F) (LineIsBad.wants refl n)) in
+      subst (λ n. Stands wants_key (λ text. text ≡ decimal n) sheet (5 + F)) (ap (λ t. number_behind wants_key (line_of t)) (sym (wants_behind sheet)))
       (number_says wants_key refl sheet (5 + F) (record { value = s.value; rest = s.rest; is = s.is; kind = s.kind.0 }))
 
   pub on_its_lines : OnItsLines sheet (sheet_name sheet) held
@@ -201,7 +201,7 @@ module _ (sheet : List ℕ) (none : NoBadLine sheet) where
   on_its_lines =
       record {
         tape = tape_stands;
-        head = number_says head_key refl sheet 1 (stands_there (tells-number sheet 1 head_key (omega arith) refl) (λ n. clean 1 (LineIsBad.head refl n)));
+        head = number_says head_key refl sheet 1 (stands_there (tells_number sheet 1 head_key (omega arith) refl) (λ n. clean 1 (LineIsBad.head refl n)));
         turn = turn_stands;
         files = rw many_files files_stands;
         file = λ i l. file_stands i (omega (arith, l, many_files));
@@ -239,7 +239,7 @@ name_is_read sheet =
     record {
       read = λ short none. rw (good_sheet sheet short none) (tape_stands sheet none);
       long = λ over. rw (long_refused sheet over);
-      bad = λ place f. rw (line_refused sheet f.index (line-found sheet place f ∙ f.at));
+      bad = λ place f. rw (line_refused sheet f.index (line_found sheet place f ∙ f.at));
     }
 
 -- A row with values in its first entries.
@@ -310,16 +310,16 @@ module _ (sheet : List ℕ) (before : RunRows) (answer : Reading) (after : RunRo
       }
 
   none_bad_here : NoBadLine sheet
-  none_bad_here = no_line sheet (no-bad-line sheet (sheet-passes sheet before passes))
+  none_bad_here = no_line sheet (no_bad_line sheet (sheet_passes sheet before passes))
 
   name_is : read_name sheet ≡ sheet_name sheet
   unfolding read_name
-  name_is = rw (sheet-passes sheet before passes)
+  name_is = rw (sheet_passes sheet before passes)
 
   holds : OnItsLines sheet (read_name sheet) (run_read answer after)
   holds = subst (λ name. OnItsLines sheet name (run_read answer after)) (sym name_is) (subst (OnItsLines sheet (sheet_name sheet)) (sym run_is) (on_its_lines sheet none_bad_here))
 
 pub read_holds_its_lines : ReadHoldsItsLines
 read_holds_its_lines sheet before answer after read accepts =
-    let passes = read-passes sheet before answer after read accepts in
+    let passes = read_passes sheet before answer after read accepts in
     (holds sheet before answer after read passes, behind_read sheet before answer after read passes)

@@ -21,7 +21,7 @@ use Rattle.sheet_reader.specs.Lines.{sweep_text, least_text}
 use Rattle.sheet_reader.specs.Sheet.{longest_sheet, most_sheet_files, says_sweep, first_bad_line, sheet_files, sheet_wants}
 use Rattle.sheet_reader.specs.Reading.{sheet_verdict, rule_verdict, short_pair_rows, short_triple_rows, read_verdict, refused_reading, read_answer, read_row, RunRows, run_rows, rows_verdict, SheetRead}
 use Rattle.sheet_reader.specs.declared.Reading.{Reading}
-use Rattle.sheet_reader.proofs.Good.{good-lines}
+use Rattle.sheet_reader.proofs.Good.{good_lines}
 use Rattle.sheet_writer.specs.declared.Written.{Written}
 use Rattle.sheet_writer.specs.Writing.{refused_writing, sheet_text, row_verdict, write_verdict, written_answer, written_row, Handed}
 use Rattle.sheet_writer.specs.PlanSheet.{plan_text, plan_sheet_verdict}
@@ -29,11 +29,11 @@ use Rattle.demands.specs.RefusalTable.{FirstBad, RunApplies, ListIsBad}
 use Rattle.demands.specs.Lines.{LineIsBad, lines_due, Ruled}
 use Rattle.demands.specs.Sheets.{read_order, ReadApplies, ReadAnswers, OneRule, write_order, list_sheet_order, WriteApplies, ListSheetApplies, WriteAnswers, Demand1Read, Demand1Write, Demand1PlanSheet}
 use Rattle.demands.proofs.Tests.{tells_false, Tells, tells_below, tells_either}
-use Rattle.demands.proofs.Checks.{decides_if, decides_there, decides_reworded, Finds, finds-none, finds-first, first_of_joined}
-use Rattle.demands.proofs.Lines.{tells-sweep, names-least}
-use Rattle.demands.proofs.FirstLine.{decides-line}
-use Rattle.demands.proofs.Judged.{run-finds, run_small}
-use Rattle.demands.proofs.Listed.{decides-list}
+use Rattle.demands.proofs.Checks.{decides_if, decides_there, decides_reworded, Finds, finds_none, finds_first, first_of_joined}
+use Rattle.demands.proofs.Lines.{tells_sweep, names_least}
+use Rattle.demands.proofs.FirstLine.{decides_line}
+use Rattle.demands.proofs.Judged.{run_finds, run_small}
+use Rattle.demands.proofs.Listed.{decides_list}
 
 -- Rows with the same entries.
 pub same_rows : (a b : RunRows) → a.starts ≡ b.starts → a.lengths ≡ b.lengths → a.aggregates ≡ b.aggregates → a.numbers ≡ b.numbers → a.counts ≡ b.counts → a ≡ b
@@ -71,8 +71,8 @@ module _ (sheet : List ℕ) (rows : RunRows) where
   row_short_here p (ReadApplies.short_numbers h) = (refl, inr (inl h))
   row_short_here p (ReadApplies.short_counts h) = (refl, inr (inr h))
 
-  tells_short : (n : ℕ) (firsts seconds : List ℕ) → Tells (short_pair_rows n firsts seconds) ((length firsts < n) ⊎ (length seconds < n))
-  tells_short n firsts seconds =
+  tells_short_here : (n : ℕ) (firsts seconds : List ℕ) → Tells (short_pair_rows n firsts seconds) ((length firsts < n) ⊎ (length seconds < n))
+  tells_short_here n firsts seconds =
       tells_either (ltb (length firsts) n) (ltb (length seconds) n) (tells_below (length firsts) n) (tells_below (length seconds) n)
 
   short : Bool
@@ -87,19 +87,19 @@ module _ (sheet : List ℕ) (rows : RunRows) where
       let row = refuse_if short ShortRow in
       rw
       (first_of_joined (long ∷ line ∷ []) (rule ∷ row ∷ []))
-      (finds-first Applies (line ∷ rule ∷ row ∷ []) refl
+      (finds_first Applies (line ∷ rule ∷ row ∷ []) refl
       (decides_reworded (λ p h. rw h.0 (ReadApplies.too_long h.1)) too_long (decides_if _ LongSheet (tells_below longest_sheet (length sheet))))
-      (λ a. finds-first Applies (rule ∷ row ∷ []) refl (decides_reworded (λ p. ReadApplies.bad_line) bad_line (decides-line sheet))
-      (λ b. finds-first Applies (row ∷ []) refl
-      (decides_reworded (λ p h. rw h.0 (ReadApplies.retired_rule h.1)) retired_rule (decides_there _ 3 RetiredRule (tells-sweep sheet)))
-      (λ c. finds-first Applies [] refl
+      (λ a. finds_first Applies (rule ∷ row ∷ []) refl (decides_reworded (λ p. ReadApplies.bad_line) bad_line (decides_line sheet))
+      (λ b. finds_first Applies (row ∷ []) refl
+      (decides_reworded (λ p h. rw h.0 (ReadApplies.retired_rule h.1)) retired_rule (decides_there _ 3 RetiredRule (tells_sweep sheet)))
+      (λ c. finds_first Applies [] refl
       (decides_reworded short_row row_short_here
       (decides_if short ShortRow
       (tells_either (short_triple_rows (sheet_files sheet) rows.starts rows.lengths rows.aggregates) (short_pair_rows (sheet_wants sheet) rows.numbers rows.counts)
       (tells_either (short_pair_rows (sheet_files sheet) rows.starts rows.lengths) (ltb (length rows.aggregates) (sheet_files sheet))
-      (tells_short (sheet_files sheet) rows.starts rows.lengths) (tells_below (length rows.aggregates) (sheet_files sheet)))
-      (tells_short (sheet_wants sheet) rows.numbers rows.counts))))
-      (λ d. finds-none Applies)))))
+      (tells_short_here (sheet_files sheet) rows.starts rows.lengths) (tells_below (length rows.aggregates) (sheet_files sheet)))
+      (tells_short_here (sheet_wants sheet) rows.numbers rows.counts))))
+      (λ d. finds_none Applies)))))
 
   read_accepted : refuses (rows_verdict sheet rows) ≡ false → rows_verdict sheet rows ≡ accepted
   unfolding read_verdict short
@@ -110,7 +110,7 @@ module _ (sheet : List ℕ) (rows : RunRows) where
   unfolding read_verdict rule_verdict says_sweep short
   accepted_ruled e =
       let all = all_accept (sheet_verdict sheet ∷ rule_verdict sheet ∷ refuse_if short ShortRow ∷ []) e in
-      names-least sheet (good-lines sheet all.0).rule (not_there (says_sweep sheet) (accepts_at (cond (says_sweep sheet) 4 0) RetiredRule refl all.1.0))
+      names_least sheet (good_lines sheet all.0).rule (not_there (says_sweep sheet) (accepts_at (cond (says_sweep sheet) 4 0) RetiredRule refl all.1.0))
     where
       not_there : (b : Bool) → ◌≡◌ {A = ℕ} (cond b 4 0) 0 → b ≡ false
       not_there true h = absurd (omega (arith, h))
@@ -157,12 +157,12 @@ module _ (vs : List Verdict) (text row : List ℕ) (answer : Written) (out : Lis
     pub place : answer.place ≡ (first_of vs).place
     pub kept : (answer.refusal ≡ Accepted → ⊥) → (answer.bytes ≡ 0) × (out ≡ row)
 
-  told_so : (b : Bool) → refuses (first_of vs) ≡ b → Told
+  told_so_here : (b : Bool) → refuses (first_of vs) ≡ b → Told
   unfolding written_answer written_row
-  told_so true e =
+  told_so_here true e =
       let is : answer ≡ refused_writing (first_of vs) = says.answer ∙ rw e in
       record { kind = ap (λ (x : Written). x.refusal) is; place = ap (λ (x : Written). x.place) is; kept = λ n. (ap (λ (x : Written). x.bytes) is, says.left ∙ rw e) }
-  told_so false e =
+  told_so_here false e =
       let is : answer ≡ record { refusal = Accepted; place = 0; bytes = length text } = says.answer ∙ rw e in
       let none = none_refuses vs e in
       record {
@@ -172,7 +172,7 @@ module _ (vs : List Verdict) (text row : List ℕ) (answer : Written) (out : Lis
       }
 
   pub told : Told
-  told = told_so (refuses (first_of vs)) refl
+  told = told_so_here (refuses (first_of vs)) refl
 
 module _ (applies : Refusal → ℕ → Type 0) (order : List Refusal) (vs : List Verdict) (text row : List ℕ) (finds : Finds applies order (first_of vs)) where
   pub writer_says : WriteAnswers applies order row (written_answer (first_of vs) text) (written_row (first_of vs) text row)
@@ -202,14 +202,14 @@ module _ (name : List ℕ) (r : Run) (row : List ℕ) where
   write_finds =
       let named = refuse_if (ltb most_sheet_files (length r.starts) || not (is_name name)) BadName in
       let short = refuse_if (ltb (length row) (length (sheet_text name r))) ShortRow in
-      run-finds r (WriteApplies name r row) (λ k p. WriteApplies.run) write_of_run (BadName ∷ ShortRow ∷ []) (named ∷ short ∷ [])
-      (λ a. finds-first (WriteApplies name r row) (short ∷ []) refl
+      run_finds r (WriteApplies name r row) (λ k p. WriteApplies.run) write_of_run (BadName ∷ ShortRow ∷ []) (named ∷ short ∷ [])
+      (λ a. finds_first (WriteApplies name r row) (short ∷ []) refl
       (decides_reworded (λ p h. rw h.0 (⊎_elim WriteApplies.many_files WriteApplies.bad_name h.1)) bad_name
       (decides_if _ BadName
       (tells_either (ltb most_sheet_files (length r.starts)) (not (is_name name)) (tells_below most_sheet_files (length r.starts)) (tells_false (is_name name)))))
-      (λ b. finds-first (WriteApplies name r row) [] refl
+      (λ b. finds_first (WriteApplies name r row) [] refl
       (decides_reworded (λ p h. rw h.0 (WriteApplies.short_row h.1)) write_row (decides_if _ ShortRow (tells_below (length row) (length (sheet_text name r)))))
-      (λ c. finds-none (WriteApplies name r row))))
+      (λ c. finds_none (WriteApplies name r row))))
 
   pub write_says : WriteAnswers (WriteApplies name r row) write_order row
       (written_answer (write_verdict name r row) (sheet_text name r)) (written_row (write_verdict name r row) (sheet_text name r) row)
@@ -254,14 +254,14 @@ module _ (name : List ℕ) (r : Run) (froms tos text row : List ℕ) where
       let named = refuse_if (not (is_name name)) BadName in
       let list = list_verdict (stops_of r) froms tos in
       let short = refuse_if (ltb (length row) (length text)) ShortRow in
-      run-finds r ListSheet (λ k p. ListSheetApplies.run) sheet_of_run (BadName ∷ BadEntry ∷ ShortRow ∷ []) (named ∷ list ∷ short ∷ [])
-      (λ a. finds-first ListSheet (list ∷ short ∷ []) refl
+      run_finds r ListSheet (λ k p. ListSheetApplies.run) sheet_of_run (BadName ∷ BadEntry ∷ ShortRow ∷ []) (named ∷ list ∷ short ∷ [])
+      (λ a. finds_first ListSheet (list ∷ short ∷ []) refl
       (decides_reworded (λ p h. rw h.0 (ListSheetApplies.bad_name h.1)) sheet_name_here (decides_if _ BadName (tells_false (is_name name))))
-      (λ b. finds-first ListSheet (short ∷ []) refl
-      (decides_reworded (λ p. ListSheetApplies.bad_list) sheet_list (decides-list r (accepted_run r a) froms tos (sym (accepted_run r a).wants.equal)))
-      (λ c. finds-first ListSheet [] refl
+      (λ b. finds_first ListSheet (short ∷ []) refl
+      (decides_reworded (λ p. ListSheetApplies.bad_list) sheet_list (decides_list r (accepted_run r a) froms tos (sym (accepted_run r a).wants.equal)))
+      (λ c. finds_first ListSheet [] refl
       (decides_reworded (λ p h. rw h.0 (ListSheetApplies.short_row h.1)) sheet_row_here (decides_if _ ShortRow (tells_below (length row) (length text))))
-      (λ d. finds-none ListSheet))))
+      (λ d. finds_none ListSheet))))
 
   pub sheet_says : WriteAnswers ListSheet list_sheet_order row (written_answer sheet-verdict text) (written_row sheet-verdict text row)
   sheet_says =

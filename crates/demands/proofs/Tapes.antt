@@ -22,7 +22,7 @@ use Rattle.tape_ranges.specs.Ranges.{end_of_range}
 use Rattle.answer_ltfs.specs.TapeTable.{in_several, are_far, some_overlap, ranges_in, tape_table, are_good_texts, ltfs_sheet, ltfs_verdict, ltfs_report, ltfs_row}
 use Rattle.demands.specs.Tapes.{SaysElements, TapeApplies, tape_order, TapeAnswers, Demand1Tape}
 use Rattle.demands.proofs.Tests.{Tells, tells_below, tells_either, tells_true, tells_false}
-use Rattle.demands.proofs.Checks.{decides_if, decides_reworded, Finds, finds-none, finds-first}
+use Rattle.demands.proofs.Checks.{decides_if, decides_reworded, Finds, finds_none, finds_first}
 
 -- Not all of four tests hold: one does not.
 not_all : (a b c d : Bool) → Tells (not (a && b && c && d)) ((a ≡ false) ⊎ ((b ≡ false) ⊎ ((c ≡ false) ⊎ (d ≡ false))))
@@ -104,24 +104,24 @@ module _ (name label index row : List ℕ) where
       let far = refuse_if (are_far ranges) FarFile in
       let several = refuse_if (some in_several (index_files (tree_of index))) ManyExtents in
       let bad = refuse_if (not (are_good_texts label index)) BadText in
-      finds-first Applies (bad ∷ several ∷ far ∷ overlaps ∷ short ∷ []) refl
+      finds_first Applies (bad ∷ several ∷ far ∷ overlaps ∷ short ∷ []) refl
       (decides_reworded (λ p h. rw h.0 (TapeApplies.bad_name h.1)) tape_name_here (decides_if _ BadName (tells_false (is_name name))))
-      (λ a. finds-first Applies (several ∷ far ∷ overlaps ∷ short ∷ []) refl
+      (λ a. finds_first Applies (several ∷ far ∷ overlaps ∷ short ∷ []) refl
       (decides_reworded bad_text tape_text
       (decides_if _ BadText (not_all (is_balanced label) (is_balanced index) (is_good_label (tree_of label)) (is_good_index (tree_of index)))))
-      (λ b. finds-first Applies (far ∷ overlaps ∷ short ∷ []) refl
+      (λ b. finds_first Applies (far ∷ overlaps ∷ short ∷ []) refl
       (decides_reworded (λ p h. rw h.0 (TapeApplies.several h.1)) tape_several (decides_if _ ManyExtents (tells_true (some in_several (index_files (tree_of index))))))
-      (λ c. finds-first Applies (overlaps ∷ short ∷ []) refl
+      (λ c. finds_first Applies (overlaps ∷ short ∷ []) refl
       (decides_reworded (λ p h. rw h.0 (⊎_elim TapeApplies.many TapeApplies.far h.1)) tape_far
       (decides_if _ FarFile
       (tells_either (ltb most_sheet_files (length ranges)) (some (λ range. ltb last_place (end_of_range range)) ranges)
       (tells_below most_sheet_files (length ranges))
       (tells_true (some (λ range. ltb last_place (end_of_range range)) ranges)))))
-      (λ d. finds-first Applies (short ∷ []) refl
+      (λ d. finds_first Applies (short ∷ []) refl
       (decides_reworded (λ p h. rw h.0 (TapeApplies.overlap h.1)) tape_overlap (decides_if _ Overlap (tells_true (some_overlap (tape_table label index)))))
-      (λ e. finds-first Applies [] refl
+      (λ e. finds_first Applies [] refl
       (decides_reworded (λ p h. rw h.0 (TapeApplies.Short-row h.1)) tape_row (decides_if _ ShortRow (tells_below (length row) (length (ltfs_sheet name label index)))))
-      (λ f. finds-none Applies))))))
+      (λ f. finds_none Applies))))))
 
   tape_accepted : refuses (ltfs_verdict name label index row) ≡ false → ltfs_verdict name label index row ≡ accepted
   unfolding ltfs_verdict checks

@@ -8,7 +8,7 @@ use native.Mathlib.Omega.{arith}
 use lib.Dec.{leb, ltb, eqb}
 use borrow.Author.Tests.{eqb-true, eqb-false, ltb-true, ltb-false, leb-true, leb-false}
 use Rattle.runs.specs.Lists.{any_below}
-use Rattle.runs.proofs.Search.{any-zero}
+use Rattle.runs.proofs.Search.{any_zero}
 
 pub record Tells (test : Bool) (condition : Type 0) : Type 0 where
   pub when_true : test ≡ true → condition
@@ -73,4 +73,4 @@ module _ (test : ℕ → Bool) (condition : ℕ → Type 0) (each : (i : ℕ) �
       go false h rest = (n, omega arith, (each n).when_true (rw h at e))
 
   pub tells_some : (n : ℕ) → Tells (any_below test n) ((j : ℕ) × (j < n) × condition j)
-  tells_some n = record { when_true = some_below n; when_false = λ e found. (each found.0).when_false (any-zero test n e found.0 found.1) found.2 }
+  tells_some n = record { when_true = some_below n; when_false = λ e found. (each found.0).when_false (any_zero test n e found.0 found.1) found.2 }

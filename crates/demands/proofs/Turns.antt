@@ -20,20 +20,20 @@ use Rattle.text_lines.specs.Lines.{after_lines, line_after}
 use Rattle.sheet_reader.specs.Lines.{turn_key, turn_with}
 use Rattle.sheet_reader.specs.Sheet.{longest_sheet, first_bad_line, says_sweep, sheet_files, sheet_wants, sheet_turn_with}
 use Rattle.sheet_reader.specs.Reading.{sheet_verdict, rule_verdict, read_verdict, read_row, RunRows, rows_verdict, read_answer_with, ReadWith, read_name}
-use Rattle.sheet_reader.proofs.Good.{short-sheet, accepted-sheet, good-lines}
+use Rattle.sheet_reader.proofs.Good.{short_sheet, accepted_sheet, good_lines}
 use Rattle.sheet_writer.specs.declared.Written.{Written}
 use Rattle.sheet_writer.specs.Writing.{row_verdict, written_answer, written_row}
 use Rattle.sheet_writer.proofs.Reread.{key_value}
 use Rattle.answer_rewrite.specs.Rewriting.{price_is_empty, rewritten, rewrite_verdict, SheetRewritten}
-use Rattle.answer_rewrite.proofs.Meaning.{upper, rest_is, old-cut, new-cut, unchanged, keeps}
+use Rattle.answer_rewrite.proofs.Meaning.{upper, rest_is, old_cut, new_cut, unchanged, keeps}
 use Rattle.demands.specs.RefusalTable.{FirstBad}
 use Rattle.demands.specs.Lines.{LineIsBad, lines_due}
 use Rattle.demands.specs.Turns.{EmptyPrice, GivenPrice, DrivesOwnPrice, ReadsButThePrice, OtherReaders, RewrittenBytes, RewrittenMeans, RewrittenOnce, UnreadApplies, SheetJudged, ResultApplies, RewriteFinds, unread, result, Demand1Rewrite}
 use Rattle.demands.proofs.Tests.{Tells, tells_below}
-use Rattle.demands.proofs.Checks.{decides_if, decides_reworded, Finds, finds-none, finds-first}
-use Rattle.demands.proofs.FirstLine.{decides-line}
-use Rattle.demands.proofs.Lines.{line_read, number_flat, number_some, tells-turn}
-use Rattle.demands.proofs.Sheets.{same_rows, read-passes, told}
+use Rattle.demands.proofs.Checks.{decides_if, decides_reworded, Finds, finds_none, finds_first}
+use Rattle.demands.proofs.FirstLine.{decides_line}
+use Rattle.demands.proofs.Lines.{line_read, number_flat, number_some, tells_turn}
+use Rattle.demands.proofs.Sheets.{same_rows, read_passes, told}
 use Rattle.demands.proofs.WriteRead.{written_passes}
 
 -- The third line: an empty `turn=`, or one with a number.
@@ -61,14 +61,14 @@ module _ (sheet : List ℕ) where
   -- In a sheet that can be read one of the two does.
   price_stands : refuses (sheet_verdict sheet) ≡ false → EmptyPrice sheet ⊎ GivenPrice sheet
   price_stands readable =
-      let s = (tells-turn sheet 2).when_true (good-lines sheet readable).turn in
+      let s = (tells_turn sheet 2).when_true (good_lines sheet readable).turn in
       ⊎_elim (λ e. inl (record { value = s.value; rest = s.rest; is = s.is; kind = e })) (λ n. inr (record { value = s.value; rest = s.rest; is = s.is; kind = n })) s.kind
 
 -- What the reader hands on.
 pub drives_own_price : DrivesOwnPrice
 unfolding sheet_turn_with turn_with
 drives_own_price sheet before answer after read accepts =
-    let price : answer.turn ≡ sheet_turn_with 12000 sheet = ap (λ (x : Reading). x.turn) read.answer ∙ rw (read-passes sheet before answer after read accepts) in
+    let price : answer.turn ≡ sheet_turn_with 12000 sheet = ap (λ (x : Reading). x.turn) read.answer ∙ rw (read_passes sheet before answer after read accepts) in
     record {
       empty = λ p. price ∙ rw (empty_line sheet p);
       given = λ p. price ∙ rw (given_line sheet p, key_value turn_key p.value, number_some p.value p.kind);
@@ -143,7 +143,7 @@ module _ (sheet row : List ℕ) (answer : Written) (out : List ℕ) (says : Shee
   unfolding written_row
   out_is = says.left ∙ rw passes
 
-  text_is : take answer.bytes out ≡ rewritten sheet
+  text_is_here : take answer.bytes out ≡ rewritten sheet
   text_is = rw (answer_is_here, out_is) (take-append_seam (rewritten sheet) (drop (length (rewritten sheet)) row))
 
   later_is_here : drop answer.bytes out ≡ drop answer.bytes row
@@ -161,7 +161,7 @@ module _ (sheet row : List ℕ) (answer : Written) (out : List ℕ) (says : Shee
 
   name_kept : read_name (rewritten sheet) ≡ read_name sheet
   unfolding read_name
-  name_kept = rw (result_good, accepted-sheet sheet good) (keeps sheet good).name
+  name_kept = rw (result_good, accepted_sheet sheet good) (keeps sheet good).name
 
 pub rewritten_bytes : RewrittenBytes
 rewritten_bytes sheet row answer out says accepts =
@@ -171,7 +171,7 @@ rewritten_bytes sheet row answer out says accepts =
       either = price_stands sheet readable;
       empty = λ p.
           let e = is_empty_here sheet p in
-          record { above = upper sheet readable e; back = after_lines 3 sheet; third = rest_is sheet readable e; old = old-cut sheet readable e; new = text ∙ new-cut sheet readable e };
+          record { above = upper sheet readable e; back = after_lines 3 sheet; third = rest_is sheet readable e; old = old_cut sheet readable e; new = text ∙ new_cut sheet readable e };
       given = λ p. text ∙ unchanged sheet readable (is_given sheet p);
       counted = ap (λ (w : Written). w.bytes) (answer_is_here sheet row answer out says accepts) ∙ ap length (sym text);
       later = later_is_here sheet row answer out says accepts;
@@ -190,7 +190,7 @@ rewritten_means sheet row written out says accepts e rows old new oldRows newRow
     let text = text_is_here sheet row written out says accepts in
     let kept = keeps sheet readable in
     let run = kept.run e in
-    let verdict = same_verdict_here e sheet (rewritten sheet) rows (accepted-sheet sheet readable) (result_good sheet row written out says accepts) kept.rule kept.files kept.wants in
+    let verdict = same_verdict_here e sheet (rewritten sheet) rows (accepted_sheet sheet readable) (result_good sheet row written out says accepts) kept.rule kept.files kept.wants in
     let read : ReadWith e (rewritten sheet) rows new newRows = rw text at new-read in
     record {
       answers = read.answer ∙ rw (verdict, ap (λ r. r.head) run, ap (λ r. r.turn) run, kept.files, kept.wants) (sym old_read.answer);
@@ -219,8 +219,8 @@ rewritten_once sheet row written out says accepts more again outAgain room says-
 
 -- The refusals.
 module _ (sheet : List ℕ) where
-  sheet_long : (p : ℕ) → UnreadApplies sheet LongSheet p → (p ≡ 0) × (longest_sheet < length sheet)
-  sheet_long p (UnreadApplies.too_long h) = (refl, h)
+  sheet_long_here : (p : ℕ) → UnreadApplies sheet LongSheet p → (p ≡ 0) × (longest_sheet < length sheet)
+  sheet_long_here p (UnreadApplies.too_long h) = (refl, h)
 
   sheet_line : (p : ℕ) → UnreadApplies sheet BadLine p → FirstBad (LineIsBad sheet) (lines_due sheet) p
   sheet_line p (UnreadApplies.bad_line h) = h
@@ -228,10 +228,10 @@ module _ (sheet : List ℕ) where
   unread_finds : Finds (UnreadApplies sheet) (LongSheet ∷ BadLine ∷ []) (sheet_verdict sheet)
   unfolding sheet_verdict
   unread_finds =
-      finds-first (UnreadApplies sheet) (refuse_at (first_bad_line sheet) BadLine ∷ []) refl
-      (decides_reworded (λ p h. rw h.0 (UnreadApplies.too_long h.1)) sheet_long (decides_if _ LongSheet (tells_below longest_sheet (length sheet))))
-      (λ a. finds-first (UnreadApplies sheet) [] refl (decides_reworded (λ p. UnreadApplies.bad_line) sheet_line (decides-line sheet))
-      (λ b. finds-none (UnreadApplies sheet)))
+      finds_first (UnreadApplies sheet) (refuse_at (first_bad_line sheet) BadLine ∷ []) refl
+      (decides_reworded (λ p h. rw h.0 (UnreadApplies.too_long h.1)) sheet_long_here (decides_if _ LongSheet (tells_below longest_sheet (length sheet))))
+      (λ a. finds_first (UnreadApplies sheet) [] refl (decides_reworded (λ p. UnreadApplies.bad_line) sheet_line (decides_line sheet))
+      (λ b. finds_none (UnreadApplies sheet)))
 
   -- The result is a byte longer where a 0 is put in.
   longer_by_one : refuses (sheet_verdict sheet) ≡ false → EmptyPrice sheet → length (rewritten sheet) ≡ length sheet + 1
@@ -239,8 +239,8 @@ module _ (sheet : List ℕ) where
       let e = is_empty_here sheet p in
       let above = upper sheet good e ++ turn_key in
       let back = after_lines 3 sheet in
-      let old = ap length (old-cut sheet good e) ∙ length-append above (line_feed ∷ back) in
-      let new = ap length (new-cut sheet good e) ∙ length-append above (code "0" ∷ (line_feed ∷ back)) in
+      let old = ap length (old_cut sheet good e) ∙ length-append above (line_feed ∷ back) in
+      let new = ap length (new_cut sheet good e) ∙ length-append above (code "0" ∷ (line_feed ∷ back)) in
       omega (arith, old, new)
 
   as_long : refuses (sheet_verdict sheet) ≡ false → GivenPrice sheet → length (rewritten sheet) ≡ length sheet
@@ -257,7 +257,7 @@ module _ (sheet : List ℕ) where
       record {
         when_true = λ e.
             let l = ltb-true longest_sheet (length (rewritten sheet)) e in
-            ⊎_elim (λ p. (p, omega (arith, l, longer_by_one good p, short-sheet sheet good))) (λ g. absurd (omega (arith, l, as_long good g, short-sheet sheet good))) (price_stands sheet good);
+            ⊎_elim (λ p. (p, omega (arith, l, longer_by_one good p, short_sheet sheet good))) (λ g. absurd (omega (arith, l, as_long good g, short_sheet sheet good))) (price_stands sheet good);
         when_false = λ e h. omega (arith, ltb-false longest_sheet (length (rewritten sheet)) e, longer_by_one good h.0, h.1);
       }
 
@@ -285,11 +285,11 @@ module _ (sheet : List ℕ) where
 
     result_finds : refuses (sheet_verdict sheet) ≡ false → Finds (ResultApplies sheet row) (LongSheet ∷ ShortRow ∷ []) (first_of resultChecks)
     result_finds good =
-        finds-first (ResultApplies sheet row) (refuse_if (ltb (length row) (length (rewritten sheet))) ShortRow ∷ []) refl
+        finds_first (ResultApplies sheet row) (refuse_if (ltb (length row) (length (rewritten sheet))) ShortRow ∷ []) refl
         (decides_reworded (λ p h. rw h.0 (ResultApplies.too_long h.1.0 h.1.1)) result_long (decides_if _ LongSheet (tells_overfull good)))
-        (λ a. finds-first (ResultApplies sheet row) [] refl
+        (λ a. finds_first (ResultApplies sheet row) [] refl
         (decides_reworded (λ p h. rw h.0 (⊎_elim (λ q. ResultApplies.short_empty q.0 q.1) (λ q. ResultApplies.short_given q.0 q.1) h.1)) result_row (decides_if _ ShortRow (tells_too_short row good)))
-        (λ b. finds-none (ResultApplies sheet row)))
+        (λ b. finds_none (ResultApplies sheet row)))
 
     verdict_refused : refuses (sheet_verdict sheet) ≡ true → rewrite_verdict sheet row ≡ sheet_verdict sheet
     unfolding rewrite_verdict row_verdict
@@ -301,7 +301,7 @@ module _ (sheet : List ℕ) where
 
     verdict_finds : (b : Bool) → refuses (sheet_verdict sheet) ≡ b → RewriteFinds sheet row (rewrite_verdict sheet row).refusal (rewrite_verdict sheet row).place
     verdict_finds true e = rw (verdict_refused e) (unread (λ k. true≢false (sym e ∙ ap is_refusal k)) unread_finds)
-    verdict_finds false e = rw (verdict_passed e) (result (rw (accepted-sheet sheet e) at unread_finds) (result_finds e))
+    verdict_finds false e = rw (verdict_passed e) (result (rw (accepted_sheet sheet e) at unread_finds) (result_finds e))
 
 pub sheet_judged : SheetJudged
 sheet_judged sheet = unread_finds sheet

@@ -17,7 +17,7 @@ use Rattle.runs.specs.Run.{Run, total, stops_of, want_stops_of}
 use Rattle.runs.specs.Judging.{right_end, table_checks, wants_checks, head_checks, judge_of}
 use Rattle.runs.specs.Lists.{Detour, list_of, entry_of, wanted, leftmost, bad_entry, first_bad_entry, WellFormed}
 use Rattle.runs.specs.AnyHead.{pulled, head_any_checks, judge_any_of, first_bad_entry_any, lifted}
-use Rattle.runs.proofs.Search.{first-zero, or_false_both}
+use Rattle.runs.proofs.Search.{first_zero, or_false_both}
 use Rattle.runs.proofs.Sound.{Sound}
 use Rattle.runs.proofs.Stops.{accepted_sound}
 use Rattle.runs.proofs.AnyHead.{judge_any_lem, accepted_any}
@@ -39,14 +39,14 @@ use Rattle.demands.specs.RefusalTable.{IsFile, NothingApplies}
 use Rattle.demands.specs.Demand2.{IsFormed, list_in}
 use Rattle.demands.specs.AnyHead.{NothingAppliesAny, IsFormedAny}
 use Rattle.demands.specs.Unwanted.{LeavesOut, TableInOrder, renamed, SameWalk, SameLists, SamePlans, UnwantedJudged, UnwantedJudgedAny, UnwantedLists, UnwantedListsAny, UnwantedPlans, UnwantedPlansAny}
-use Rattle.demands.proofs.Judged.{nothing-judged, judged-nothing}
-use Rattle.demands.proofs.AnyJudged.{nothing-judged-any, judged-nothing-any}
+use Rattle.demands.proofs.Judged.{nothing_judged, judged_nothing}
+use Rattle.demands.proofs.AnyJudged.{nothing_judged_any, judged_nothing_any}
 use Rattle.demands.proofs.AnySums.{formed_any_means}
-use Rattle.demands.proofs.Demand2.{formed-list, is-formed}
+use Rattle.demands.proofs.Demand2.{formed_list, is_formed}
 use Rattle.demands.proofs.Planned as planned
 use Rattle.demands.proofs.AnyHead as anywhere
-use Rattle.demands.proofs.Renamed.{allRenamed, right-renamed, legs-renamed, pulled-renamed, legs-any-renamed, times-renamed, sum-renamed, told-renamed, bad-renamed, bad-any-renamed, least-renamed, name-found, list-found}
-use Rattle.demands.proofs.Kept.{more-passes, less-passes, as_many, wants-same, wants-renamed, stops-renamed}
+use Rattle.demands.proofs.Renamed.{allRenamed, right_renamed, legs_renamed, pulled_renamed, legs_any_renamed, times_renamed, sum_renamed, told_renamed, bad_renamed, bad_any_renamed, least_renamed, name_found, list_found}
+use Rattle.demands.proofs.Kept.{more_passes, less_passes, as_many, wants_same, wants_renamed, stops_renamed}
 
 -- Both entries of a well-formed list are names of stops.
 names_of : (r : Run) (list : List Detour) → WellFormed (stops_of r) list → (i : ℕ) → i < length list
@@ -55,7 +55,7 @@ unfolding first_bad_entry
 names_of r list v i l =
     let ss = stops_of r in
     let d = entry_of list i in
-    let alone = (or_false_both _ _ (first-zero (bad_entry ss list) (length list) v i l)).0 in
+    let alone = (or_false_both _ _ (first_zero (bad_entry ss list) (length list) v i l)).0 in
     let three = (or_false_both (not (wanted ss d.from) || not (wanted ss d.to) || ltb d.to d.from) (leb d.from (leftmost ss)) alone).0 in
     let two = (or_false_both (not (wanted ss d.from) || not (wanted ss d.to)) (ltb d.to d.from) three).0 in
     let each = or_false_both (not (wanted ss d.from)) (not (wanted ss d.to)) two in
@@ -138,9 +138,9 @@ module _ (old : ℕ → ℕ) (more less : Run) (out : LeavesOut old more less) (
   -- The table passes in both, the wants are judged alike, and so is the head, where it is judged.
   three_alike : (hs hs' : List Verdict) → (refuses (first_of (wants_of less)) ≡ false → hs ≡ hs') → first_of (table_of more ∷ first_of (wants_of more) ∷ first_of hs ∷ []) ≡ first_of (table_of less ∷ first_of (wants_of less) ∷ first_of hs' ∷ [])
   three_alike hs hs' same =
-      first_passes (table_of more) (first_of (wants_of more) ∷ first_of hs ∷ []) (more-passes old more less out order)
-      ∙ first_alike (first_of (wants_of more)) (first_of (wants_of less)) (first_of hs ∷ []) (first_of hs' ∷ []) (ap first_of (wants-same old more less out order)) (λ e. ap (λ vs. first_of vs ∷ []) (same e))
-      ∙ sym (first_passes (table_of less) (first_of (wants_of less) ∷ first_of hs' ∷ []) (less-passes old more less out order))
+      first_passes (table_of more) (first_of (wants_of more) ∷ first_of hs ∷ []) (more_passes old more less out order)
+      ∙ first_alike (first_of (wants_of more)) (first_of (wants_of less)) (first_of hs ∷ []) (first_of hs' ∷ []) (ap first_of (wants_same old more less out order)) (λ e. ap (λ vs. first_of vs ∷ []) (same e))
+      ∙ sym (first_passes (table_of less) (first_of (wants_of less) ∷ first_of hs' ∷ []) (less_passes old more less out order))
 
   any_alike : judge_any_of more ≡ judge_any_of less
   unfolding judge_any_of
@@ -153,8 +153,8 @@ module _ (old : ℕ → ℕ) (more less : Run) (out : LeavesOut old more less) (
 
   head_alike : refuses (first_of (wants_of less)) ≡ false → head_checks more.turn more.head (right_end (stops_of more)) ≡ head_checks less.turn less.head (right_end (stops_of less))
   head_alike e =
-      ap (λ ss. head_checks more.turn more.head (right_end ss)) (stops-renamed old more less out order (named e))
-      ∙ ap (head_checks more.turn more.head) (right-renamed old out.names (stops_of less))
+      ap (λ ss. head_checks more.turn more.head (right_end ss)) (stops_renamed old more less out order (named e))
+      ∙ ap (head_checks more.turn more.head) (right_renamed old out.names (stops_of less))
       ∙ ap (λ t. head_checks t more.head (right_end (stops_of less))) out.turn
       ∙ ap (λ m. head_checks less.turn m (right_end (stops_of less))) out.head
 
@@ -171,42 +171,42 @@ module _ (old : ℕ → ℕ) (more less : Run) (out : LeavesOut old more less) (
 
   module _ (files : (i : ℕ) → i < length less.numbers → IsFile less (get_or less.numbers i 0)) where
     stops : stops_of more ≡ allRenamed old out.names (stops_of less)
-    stops = stops-renamed old more less out order files
+    stops = stops_renamed old more less out order files
 
     wants : want_stops_of more ≡ allRenamed old out.names (want_stops_of less)
-    wants = wants-renamed old more less out order files
+    wants = wants_renamed old more less out order files
 
     legs_any : (list : List Detour) → run_legs more (renamed old list) ≡ run_legs less list
     legs_any list =
         ap (λ ss. legs_any_of more.head ss (renamed old list)) stops
         ∙ ap (λ m. legs_any_of m (allRenamed old out.names (stops_of less)) (renamed old list)) out.head
-        ∙ legs-any-renamed old out.names less.head (stops_of less) list
+        ∙ legs_any_renamed old out.names less.head (stops_of less) list
 
     legs_01 : (list : List Detour) → legs_of (stops_of more) (renamed old list) ≡ legs_of (stops_of less) list
-    legs_01 list = ap (λ ss. legs_of ss (renamed old list)) stops ∙ legs-renamed old out.names (stops_of less) list
+    legs_01 list = ap (λ ss. legs_of ss (renamed old list)) stops ∙ legs_renamed old out.names (stops_of less) list
 
     walk_same : (gs hs : List Leg) → gs ≡ hs → SameWalk more less gs hs
     walk_same gs hs e =
         record {
           legs = e;
           arrives = rw (e, out.turn, out.head) refl;
-          sum = rw (e, stops, out.turn, out.head) (sum-renamed old out.names less.turn (head_at less.head) hs (stops_of less));
-          times = rw (e, wants, out.turn, out.head) (times-renamed old out.names less.turn (head_at less.head) hs (want_stops_of less));
-          told = rw (e, wants) (told-renamed old out.names hs (want_stops_of less));
+          sum = rw (e, stops, out.turn, out.head) (sum_renamed old out.names less.turn (head_at less.head) hs (stops_of less));
+          times = rw (e, wants, out.turn, out.head) (times_renamed old out.names less.turn (head_at less.head) hs (want_stops_of less));
+          told = rw (e, wants) (told_renamed old out.names hs (want_stops_of less));
         }
 
     bad_any : (list : List Detour) → first_bad_entry_any more.head (stops_of more) (renamed old list) ≡ first_bad_entry_any less.head (stops_of less) list
-    bad_any list = rw (stops, out.head) (bad-any-renamed old out.names less.head (stops_of less) list)
+    bad_any list = rw (stops, out.head) (bad_any_renamed old out.names less.head (stops_of less) list)
 
     bad_01 : (list : List Detour) → first_bad_entry (stops_of more) (renamed old list) ≡ first_bad_entry (stops_of less) list
-    bad_01 list = rw stops (bad-renamed old out.names (stops_of less) list)
+    bad_01 list = rw stops (bad_renamed old out.names (stops_of less) list)
 
     mine_of : (list : List Detour) → WellFormed (stops_of more) list → (mine : List Detour) × (list ≡ renamed old mine)
     mine_of list v =
-        list-found old out.names list (λ i l.
+        list_found old out.names list (λ i l.
         let both = names_of more list v i l in (
-          name-found old out.names (stops_of less) (entry_of list i).from (ap (λ ss. wanted ss (entry_of list i).from) (sym stops) ∙ both.0),
-          name-found old out.names (stops_of less) (entry_of list i).to (ap (λ ss. wanted ss (entry_of list i).to) (sym stops) ∙ both.1),
+          name_found old out.names (stops_of less) (entry_of list i).from (ap (λ ss. wanted ss (entry_of list i).from) (sym stops) ∙ both.0),
+          name_found old out.names (stops_of less) (entry_of list i).to (ap (λ ss. wanted ss (entry_of list i).to) (sym stops) ∙ both.1),
         ))
 
     lists_same : (Formed : Run → List Detour → Type 0) (legs : Run → List Detour → List Leg)
@@ -247,10 +247,10 @@ module _ (old : ℕ → ℕ) (more less : Run) (out : LeavesOut old more less) (
   -- Well-formed lists and their walks.
   module _ (nothing : NothingAppliesAny less) where
     accepts : refuses (judge_any_of less) ≡ false
-    accepts = nothing-judged-any less nothing
+    accepts = nothing_judged_any less nothing
 
     nothing_more_here : NothingAppliesAny more
-    nothing_more_here = judged-nothing-any more (ap refuses any_alike ∙ accepts)
+    nothing_more_here = judged_nothing_any more (ap refuses any_alike ∙ accepts)
 
     formed_any : (list : List Detour) → IsFormedAny less list ↔ IsFormedAny more (renamed old list)
     formed_any list =
@@ -266,7 +266,7 @@ module _ (old : ℕ → ℕ) (more less : Run) (out : LeavesOut old more less) (
 
   module _ (nothing : NothingApplies less) where
     accepts_01 : refuses (judge_of less) ≡ false
-    accepts_01 = nothing-judged less nothing
+    accepts_01 = nothing_judged less nothing
 
     accepts_more : refuses (judge_of more) ≡ false
     accepts_more = ap refuses alike ∙ accepts_01
@@ -276,12 +276,12 @@ module _ (old : ℕ → ℕ) (more less : Run) (out : LeavesOut old more less) (
         let good = accepted_run less accepts_01 in
         let other = accepted_run more accepts_more in
         let same = bad_01 (named_01 accepts_01) list in
-        (λ f. is-formed more other (renamed old list) (same ∙ formed-list less good list f), λ f. is-formed less good list (sym same ∙ formed-list more other (renamed old list) f))
+        (λ f. is_formed more other (renamed old list) (same ∙ formed_list less good list f), λ f. is_formed less good list (sym same ∙ formed_list more other (renamed old list) f))
 
     lists_01 : SameLists old more less IsFormed (λ r list. legs_of (stops_of r) list)
     lists_01 =
         lists_same (named_01 accepts_01) IsFormed (λ r list. legs_of (stops_of r) list) formed_01
-        (λ list f. formed-list more (accepted_run more accepts_more) list f) (legs_01 (named_01 accepts_01))
+        (λ list f. formed_list more (accepted_run more accepts_more) list f) (legs_01 (named_01 accepts_01))
 
   -- The planner.
   verdict_any : (rows : Rows) → plan_any_verdict more rows ≡ plan_any_verdict less rows
@@ -302,8 +302,8 @@ module _ (old : ℕ → ℕ) (more less : Run) (out : LeavesOut old more less) (
       ∙ ap (λ ss. least_list more.turn (pulled more.head ss)) (stops (named_any e))
       ∙ ap (λ m. least_list more.turn (pulled m (allRenamed old out.names (stops_of less)))) out.head
       ∙ ap (λ t. least_list t (pulled less.head (allRenamed old out.names (stops_of less)))) out.turn
-      ∙ ap (least_list less.turn) (pulled-renamed old out.names less.head (stops_of less))
-      ∙ least-renamed old out.names less.turn (pulled less.head (stops_of less))
+      ∙ ap (least_list less.turn) (pulled_renamed old out.names less.head (stops_of less))
+      ∙ least_renamed old out.names less.turn (pulled less.head (stops_of less))
       ∙ ap (renamed old) (sym (least_any_is less e mine least'))
 
   list_01_same : refuses (judge_of less) ≡ false → (list mine : List Detour) → LeastForRun more list → LeastForRun less mine → list ≡ renamed old mine
@@ -311,7 +311,7 @@ module _ (old : ℕ → ℕ) (more less : Run) (out : LeavesOut old more less) (
       least_01_is more (ap refuses alike ∙ e) list least
       ∙ ap (least_list more.turn) (stops (named_01 e))
       ∙ ap (λ t. least_list t (allRenamed old out.names (stops_of less))) out.turn
-      ∙ least-renamed old out.names less.turn (stops_of less)
+      ∙ least_renamed old out.names less.turn (stops_of less)
       ∙ ap (renamed old) (sym (least_01_is less e mine least'))
 
   module _ (before : Rows) (answer answer' : Answer) (after after' : Rows) where
@@ -370,12 +370,12 @@ module _ (old : ℕ → ℕ) (more less : Run) (out : LeavesOut old more less) (
 pub unwanted_judged : UnwantedJudged
 unwanted_judged old more less out order =
     let e = ap refuses (alike old more less out order) in
-    (λ n. judged-nothing less (sym e ∙ nothing-judged more n), λ n. judged-nothing more (e ∙ nothing-judged less n))
+    (λ n. judged_nothing less (sym e ∙ nothing_judged more n), λ n. judged_nothing more (e ∙ nothing_judged less n))
 
 pub unwanted_judged_any : UnwantedJudgedAny
 unwanted_judged_any old more less out order =
     let e = ap refuses (any_alike old more less out order) in
-    (λ n. judged-nothing-any less (sym e ∙ nothing-judged-any more n), λ n. judged-nothing-any more (e ∙ nothing-judged-any less n))
+    (λ n. judged_nothing_any less (sym e ∙ nothing_judged_any more n), λ n. judged_nothing_any more (e ∙ nothing_judged_any less n))
 
 pub unwanted_lists : UnwantedLists
 unwanted_lists old more less out order nothing = lists_01 old more less out order nothing

@@ -23,7 +23,7 @@ use Rattle.demands.specs.RefusalTable.{IsFile, Together, WantedWith, NothingAppl
 use Rattle.demands.specs.Demand2.{IsFormed}
 use Rattle.demands.specs.AnyHead.{NothingAppliesAny, IsFormedAny}
 use Rattle.demands.specs.Unwanted.{FileKept, LeavesOut, TableInOrder, SameLists, SamePlans}
-use Rattle.demands.proofs.Judged.{judged-table, judged-nothing}
+use Rattle.demands.proofs.Judged.{judged_table, judged_nothing}
 use Rattle.demands.proofs.AnyJudged.{takes_what_01_takes}
 use Rattle.demands.proofs.Unwanted.{unwanted_judged, unwanted_judged_any, unwanted_lists, unwanted_lists_any, unwanted_plans, unwanted_plans_any}
 use Rattle.demands.proofs.Fits.{plan_answer, plan_rows, plans_for_every_input, plan_any_answer, plan_any_rows, plans_any_for_every_input}
@@ -96,7 +96,7 @@ leaves_out =
 
 pub in_order : TableInOrder whole
 unfolding first_where goes_on any_below
-in_order = let t = judged-table whole refl in record { rows = t.0; files = t.1 }
+in_order = let t = judged_table whole refl in record { rows = t.0; files = t.1 }
 
 abbrev lent : Rows
 lent = rows_of (7 ∷ 7 ∷ []) (7 ∷ 7 ∷ []) (7 ∷ 7 ∷ 7 ∷ []) (7 ∷ 7 ∷ 7 ∷ []) (replicate 54 7)
@@ -114,7 +114,7 @@ one_answer_of_01 =
 -- Nothing applies to the smaller run, and so to neither; their lists are the same but for the numbers.
 pub picked_accepted : NothingApplies picked
 unfolding judge_of first_where any_below goes_on first_member last_within want_stops join_to joined right_end
-picked_accepted = judged-nothing picked refl
+picked_accepted = judged_nothing picked refl
 
 pub whole_accepted : NothingApplies whole
 whole_accepted = (unwanted_judged had whole picked leaves_out in_order).1 picked_accepted

@@ -23,7 +23,7 @@ use Rattle.sheet_writer.specs.declared.Written.{Written}
 use Rattle.sheet_writer.specs.Writing.{refused_writing, sheet_text, row_verdict, write_verdict, written_answer, written_row}
 use Rattle.sheet_reader.proofs.Rows.{length_each}
 use Rattle.sheet_writer.proofs.RoundTrip.{round_trip}
-use Rattle.demands.proofs.Judged.{judged-accepted, judged-nothing, nothing-judged}
+use Rattle.demands.proofs.Judged.{judged_accepted, judged_nothing, nothing_judged}
 use Rattle.demands.proofs.Sheets.{one_rule}
 use Rattle.demands.specs.Sheets.{Demand2Written, GivesBack, Demand2RoundTrip, run_read, RunComesBack, WriteThenRead}
 
@@ -73,9 +73,9 @@ demand2_written name r row answer out a o e =
 pub demand2_round_trip : Demand2RoundTrip
 unfolding read_answer read_row
 demand2_round_trip name r nothing few named starts lengths aggregates numbers counts a b g c d =
-    let e = nothing-judged r nothing in
+    let e = nothing_judged r nothing in
     let sheet = sheet_text name r in
-    let back = round_trip name r (judged-accepted r e) few named in
+    let back = round_trip name r (judged_accepted r e) few named in
     let good = accepted_run r e in
     let files : sheet_files sheet ≡ length r.starts = files_in_lem sheet ∙ ap (λ run. length run.starts) back.same_run in
     let wants : sheet_wants sheet ≡ length r.numbers = wants_in sheet ∙ ap (λ run. length run.numbers) back.same_run in
@@ -133,5 +133,5 @@ write_then_read name r row written out writes accepts before answer after long r
     let text = demand2_written name r row written out writes.answer writes.left accepts in
     let needs = write_needs name r row (written_passes (write_verdict name r row) (sheet_text name r) written writes.answer accepts) in
     let good = accepted_run r needs.0 in
-    let back = demand2_round_trip name r (judged-nothing r needs.0) needs.1 needs.2 before.starts before.lengths before.aggregates before.numbers before.counts long.starts long.lengths long.aggregates long.numbers long.counts in
+    let back = demand2_round_trip name r (judged_nothing r needs.0) needs.1 needs.2 before.starts before.lengths before.aggregates before.numbers before.counts long.starts long.lengths long.aggregates long.numbers long.counts in
     rw text (comes_back name r before answer after (sym good.files.table.equal) (sym good.files.rows) (sym good.wants.equal) (rw text at read) back)

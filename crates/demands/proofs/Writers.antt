@@ -29,9 +29,9 @@ use Rattle.demands.specs.Sheets.{write_order, list_sheet_order, WriteApplies, Li
 use Rattle.demands.specs.AnyHead.{RunAppliesAny, ListIsBadAny}
 use Rattle.demands.specs.Writers.{WritesItsSheet, RowsAreLeft, RunSheetWriter, PlanSheetWriter, FigureSheetWriter, ListSheetAnyApplies, PlanAnySheetWriter, FigureAnySheetWriter}
 use Rattle.demands.proofs.Tests.{tells_false, tells_below}
-use Rattle.demands.proofs.Checks.{decides_if, decides_reworded, Finds, finds-none, finds-first}
-use Rattle.demands.proofs.AnyJudged.{any_small, run-any-finds, decides-list-any}
-use Rattle.demands.proofs.Sheets.{told, write-finds, sheet-finds}
+use Rattle.demands.proofs.Checks.{decides_if, decides_reworded, Finds, finds_none, finds_first}
+use Rattle.demands.proofs.AnyJudged.{any_small, run_any_finds, decides_list_any}
+use Rattle.demands.proofs.Sheets.{told, write_finds, sheet_finds}
 use Rattle.demands.proofs.WriteRead.{written_passes}
 
 module _ (applies : Refusal → ℕ → Type 0) (order : List Refusal) (vs : List Verdict) (sheet row : List ℕ) (finds : Finds applies order (first_of vs)) (answer : Written) (out : List ℕ)
@@ -73,7 +73,7 @@ unfolding write_verdict
 run_sheet_writer name r row answer out says =
     writes_its_sheet (WriteApplies name r row) write_order
     (judge_of r ∷ refuse_if (ltb most_sheet_files (length r.starts) || not (is_name name)) BadName ∷ row_verdict (sheet_text name r) row ∷ [])
-    (sheet_text name r) row (write-finds name r row) answer out says
+    (sheet_text name r) row (write_finds name r row) answer out says
 
 -- The writers of a list's sheets.
 module _ (name : List ℕ) (r : Run) (froms tos sheet row : List ℕ) where
@@ -82,7 +82,7 @@ module _ (name : List ℕ) (r : Run) (froms tos sheet row : List ℕ) where
 
   list_sheet : (answer : Written) (out : List ℕ) → Handed (first_of list_checks) sheet row answer out
       → WritesItsSheet (ListSheetApplies name r froms tos sheet row) list_sheet_order sheet row answer out
-  list_sheet answer out says = writes_its_sheet (ListSheetApplies name r froms tos sheet row) list_sheet_order list_checks sheet row (sheet-finds name r froms tos sheet row) answer out says
+  list_sheet answer out says = writes_its_sheet (ListSheetApplies name r froms tos sheet row) list_sheet_order list_checks sheet row (sheet_finds name r froms tos sheet row) answer out says
 
   -- For a head anywhere.
   abbrev Any : Refusal → ℕ → Type 0
@@ -98,9 +98,9 @@ module _ (name : List ℕ) (r : Run) (froms tos sheet row : List ℕ) where
   any_name p (ListSheetAnyApplies.run h) = absurd (omega (arith, any_small r h))
   any_name p (ListSheetAnyApplies.bad_name h) = (refl, h)
 
-  any_list : (p : ℕ) → Any BadEntry p → ListIsBadAny r froms tos p
-  any_list p (ListSheetAnyApplies.run h) = absurd (omega (arith, any_small r h))
-  any_list p (ListSheetAnyApplies.bad_list h) = h
+  any_list_here : (p : ℕ) → Any BadEntry p → ListIsBadAny r froms tos p
+  any_list_here p (ListSheetAnyApplies.run h) = absurd (omega (arith, any_small r h))
+  any_list_here p (ListSheetAnyApplies.bad_list h) = h
 
   any_row : (p : ℕ) → Any ShortRow p → (p ≡ 0) × (length row < length sheet)
   any_row p (ListSheetAnyApplies.run h) = absurd (omega (arith, any_small r h))
@@ -109,22 +109,22 @@ module _ (name : List ℕ) (r : Run) (froms tos sheet row : List ℕ) where
   abbrev anyListChecks : List Verdict
   anyListChecks = judge_any_of r ∷ refuse_if (not (is_name name)) BadName ∷ list_verdict_any r.head (stops_of r) froms tos ∷ row_verdict sheet row ∷ []
 
-  any_finds : Finds Any list_sheet_order (first_of anyListChecks)
+  any_finds_here : Finds Any list_sheet_order (first_of anyListChecks)
   unfolding row_verdict
-  any_finds =
+  any_finds_here =
       let named = refuse_if (not (is_name name)) BadName in
       let list = list_verdict_any r.head (stops_of r) froms tos in
       let short = refuse_if (ltb (length row) (length sheet)) ShortRow in
-      run-any-finds r Any (λ k p. ListSheetAnyApplies.run) any_of_run (BadName ∷ BadEntry ∷ ShortRow ∷ []) (named ∷ list ∷ short ∷ [])
-      (λ a. finds-first Any (list ∷ short ∷ []) refl
+      run_any_finds r Any (λ k p. ListSheetAnyApplies.run) any_of_run (BadName ∷ BadEntry ∷ ShortRow ∷ []) (named ∷ list ∷ short ∷ [])
+      (λ a. finds_first Any (list ∷ short ∷ []) refl
       (decides_reworded (λ p h. rw h.0 (ListSheetAnyApplies.bad_name h.1)) any_name (decides_if _ BadName (tells_false (is_name name))))
-      (λ b. finds-first Any (short ∷ []) refl (decides_reworded (λ p. ListSheetAnyApplies.bad_list) any_list (decides-list-any r (accepted_any r a) froms tos))
-      (λ c. finds-first Any [] refl
+      (λ b. finds_first Any (short ∷ []) refl (decides_reworded (λ p. ListSheetAnyApplies.bad_list) any_list_here (decides_list_any r (accepted_any r a) froms tos))
+      (λ c. finds_first Any [] refl
       (decides_reworded (λ p h. rw h.0 (ListSheetAnyApplies.Short-row h.1)) any_row (decides_if _ ShortRow (tells_below (length row) (length sheet))))
-      (λ d. finds-none Any))))
+      (λ d. finds_none Any))))
 
   any_sheet : (answer : Written) (out : List ℕ) → Handed (first_of anyListChecks) sheet row answer out → WritesItsSheet Any list_sheet_order sheet row answer out
-  any_sheet answer out says = writes_its_sheet Any list_sheet_order anyListChecks sheet row any_finds answer out says
+  any_sheet answer out says = writes_its_sheet Any list_sheet_order anyListChecks sheet row any_finds_here answer out says
 
 pub plan_sheet_writer : PlanSheetWriter
 unfolding plan_sheet_verdict

@@ -7,7 +7,7 @@ use lib.ListN.{length}
 use Rattle.refusals.specs.Refusals.{is_refusal}
 use Rattle.walk.specs.declared.Answer.{Answer}
 use Rattle.planner.specs.Rows.{Rows}
-use Rattle.planner.proofs.Determined.{plan-determined}
+use Rattle.planner.proofs.Determined.{plan_determined}
 use Rattle.desk_tickets.specs.declared.Ticket.{Ticket}
 use Rattle.desk_tickets.specs.declared.Lasts.{Lasts}
 use Rattle.desk_tickets.specs.WaitingTable.{records_verdict}
@@ -29,7 +29,7 @@ module _ (len : ℕ) (tape : Tape) (table : List Ticket) (b : Boarding) (before 
 
   planned_once_here : RunPlanned tape table b before r after → RunPlanned tape table b before r' after' → (r ≡ r') × (after ≡ after')
   planned_once_here p q =
-      let e = plan-determined (board_run tape table b) before r.boarded.answer r'.boarded.answer after after' p.plans q.plans in
+      let e = plan_determined (board_run tape table b) before r.boarded.answer r'.boarded.answer after after' p.plans q.plans in
       (p.says ∙ ap (λ (a : Answer). boarded_by table b.lasts a) e.0 ∙ sym q.says, e.1)
 
   -- Two results of `desk_boardings::board_in` that fit its contract are equal.

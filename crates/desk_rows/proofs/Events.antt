@@ -16,7 +16,7 @@ use Rattle.desk_rows.specs.declared.Told.{Told}
 use Rattle.desk_rows.specs.declared.ToldRow.{ToldRow}
 use Rattle.desk_rows.specs.Desk.{table_in, with_table}
 use Rattle.desk_rows.specs.Events.{day_of, told_by, told_row, LentAnswered, HeldAnswered}
-use Rattle.desk_rows.proofs.Kept.{table-then-rest}
+use Rattle.desk_rows.proofs.Kept.{table_then_rest}
 
 module _ (l : Lasts) (tape : Tape) (room out : List ℕ) (e : Event) (room' out' : List ℕ) where
   pub lent_so : (ts exit table : List Ticket) (done : Answered) (r : Told)
@@ -44,10 +44,10 @@ module _ (l : Lasts) (tape : Tape) (room out : List ℕ) (e : Event) (room' out'
         ap (λ (n : ℕ). take 32 row ++ replicate n no_ticket) none ∙ append-nil (take 32 row) ∙ take_all 32 row (omega arith)
 
     written_over : (table : List Ticket) → length table ≡ 32 → with_table table row ≡ table
-    written_over table whole = table-then-rest table row whole (omega arith) ∙ ap (λ (t : List Ticket). table ++ t) (let past : length row ≤ 32 = omega arith in drop_of_length-le row past) ∙ append-nil table
+    written_over table whole = table_then_rest table row whole (omega arith) ∙ ap (λ (t : List Ticket). table ++ t) (let past : length row ≤ 32 = omega arith in drop_of_length-le row past) ∙ append-nil table
 
-    pub held_so_here : (exit : List Ticket) (told : Told) → LentAnswered row l tape room out e told exit room' out' → (r : ToldRow) → r ≡ told_row exit told → HeldAnswered row l tape room out e r room' out'
-    held_so_here exit told lent r is =
+    pub held_so : (exit : List Ticket) (told : Told) → LentAnswered row l tape room out e told exit room' out' → (r : ToldRow) → r ≡ told_row exit told → HeldAnswered row l tape room out e r room' out'
+    held_so exit told lent r is =
         let a = lent.answered in
         record {
           held = a;

@@ -20,9 +20,9 @@ use Rattle.desk_tickets.specs.Filings.{in_range, file_verdict, number_for, lasts
 use Rattle.desk_tickets.specs.Withdrawals.{has_number, without_number, withdraw_verdict, without_ticket, row_left, withdraw_row}
 use Rattle.desk_tickets.specs.Private.{without_some, index_of}
 use Rattle.desk_tickets.proofs.Sound.{and_true_both}
-use Rattle.desk_tickets.proofs.Placed.{leaving-before, leaving-behind, waiting-one, waiting-two}
+use Rattle.desk_tickets.proofs.Placed.{leaving_before, leaving_behind, waiting_one, waiting_two}
 use Rattle.desk_tickets.proofs.Storing.{office_is, range_office}
-use Rattle.desk_tickets.proofs.Leaving.{without-index, index_in}
+use Rattle.desk_tickets.proofs.Leaving.{without_index, index_in}
 
 -- A ticket's number is at least 1 and at most the last; a later last does no harm.
 module _ (office last : ℕ) (t : Ticket) (is : is_ticket office last t ≡ true) where
@@ -35,8 +35,8 @@ module _ (office last : ℕ) (t : Ticket) (is : is_ticket office last t ≡ true
   pub number_most : t.number ≤ last
   number_most = leb-true t.number last number_both.1
 
-  pub number_some_here : 0 < t.number
-  number_some_here = elim (dec_lt 0 t.number) [ yes h ↦ h | no m ↦ absurd (eqb-false t.number 0 (not-true (eqb t.number 0) number_both.0) (omega arith)) ]
+  pub number_some : 0 < t.number
+  number_some = elim (dec_lt 0 t.number) [ yes h ↦ h | no m ↦ absurd (eqb-false t.number 0 (not-true (eqb t.number 0) number_both.0) (omega arith)) ]
 
   pub ticket_wider : (more : ℕ) → last ≤ more → is_ticket office more t ≡ true
   ticket_wider more l = rw (number_test.0, number_both.0, le-leb t.number more (omega (arith, number_most)))
@@ -98,7 +98,7 @@ module _ (office last p : ℕ) (ts : List Ticket) (in-ts : p < length ts) (w : W
       )
 
   behind : (i : ℕ) → p ≤ i → get_or (without_some p 1 ts) i no_ticket ≡ get_or ts (suc i) no_ticket
-  behind i l = let e : i + 1 ≡ suc i = omega arith in leaving-behind p 1 ts i l (omega arith) ∙ ap (λ k. get_or ts k no_ticket) e
+  behind i l = let e : i + 1 ≡ suc i = omega arith in leaving_behind p 1 ts i l (omega arith) ∙ ap (λ k. get_or ts k no_ticket) e
 
   waits_leaving : Waits office last (without_some p 1 ts)
   waits_leaving = record { few = omega (arith, one_less, w.few); each = each; ascends = ascends }
@@ -107,7 +107,7 @@ module _ (office last p : ℕ) (ts : List Ticket) (in-ts : p < length ts) (w : W
       each i l =
           let less = one_less in
           elim (dec_lt i p) [
-            | yes h ↦ rw (leaving-before p 1 ts i h (omega arith)) (w.each i (omega arith))
+            | yes h ↦ rw (leaving_before p 1 ts i h (omega arith)) (w.each i (omega arith))
             | no m ↦ rw (behind i (omega arith)) (w.each (suc i) (omega arith))
           ]
 
@@ -117,23 +117,23 @@ module _ (office last p : ℕ) (ts : List Ticket) (in-ts : p < length ts) (w : W
           let first = w.ascends i (omega arith) in
           let second = w.ascends (suc i) (omega arith) in
           elim (dec_lt (suc i) p) [
-            | yes h ↦ rw (leaving-before p 1 ts i (omega arith) (omega arith), leaving-before p 1 ts (suc i) h (omega arith)) first
+            | yes h ↦ rw (leaving_before p 1 ts i (omega arith) (omega arith), leaving_before p 1 ts (suc i) h (omega arith)) first
             | no m ↦
                 elim (dec_lt i p) [
-                  | yes h ↦ rw (leaving-before p 1 ts i h (omega arith), behind (suc i) (omega arith)) (omega arith)
+                  | yes h ↦ rw (leaving_before p 1 ts i h (omega arith), behind (suc i) (omega arith)) (omega arith)
                   | no k ↦ rw (behind i (omega arith), behind (suc i) (omega arith)) second
                 ]
           ]
 
 pub waits_without : (office last n : ℕ) (ts : List Ticket) → has_number n ts ≡ true → Waits office last ts → Waits office last (without_number n ts)
-waits_without office last n ts h w = rw (without-index n ts h) (waits_leaving office last (index_of n ts) ts (index_in n ts h) w)
+waits_without office last n ts h w = rw (without_index n ts h) (waits_leaving office last (index_of n ts) ts (index_in n ts h) w)
 
 -- A sound row, by what waits in it.
 abbrev pub Stands : Lasts → List Ticket → Type 0
 Stands l row = Sound l (waiting 1 row) (waiting 2 row) row
 
 pub sound_stands : (l : Lasts) (ones twos row : List Ticket) → Sound l ones twos row → Stands l row
-sound_stands l ones twos row s = rw (waiting-one l ones twos row s, waiting-two l ones twos row s) s
+sound_stands l ones twos row s = rw (waiting_one l ones twos row s, waiting_two l ones twos row s) s
 
 -- What a row holds after a call: these tickets at each office, and the row stays sound.
 pub record Holds (l : Lasts) (ones twos row : List Ticket) : Type 0 where
@@ -144,8 +144,8 @@ pub record Holds (l : Lasts) (ones twos row : List Ticket) : Type 0 where
 holds : (l : Lasts) (ones twos : List Ticket) → Sound l ones twos (row_of ones twos) → Holds l ones twos (row_of ones twos)
 holds l ones twos s =
     record {
-      one = waiting-one l ones twos (row_of ones twos) s;
-      two = waiting-two l ones twos (row_of ones twos) s;
+      one = waiting_one l ones twos (row_of ones twos) s;
+      two = waiting_two l ones twos (row_of ones twos) s;
       sound = sound_stands l ones twos (row_of ones twos) s;
     }
 
@@ -224,18 +224,18 @@ withdraw_holds row w s e h = by_office w.office (office_is w.office e) h
 
 -- The answer by the verdict.
 module _ (len : ℕ) (row : List Ticket) (f : Filing) where
-  pub filed_so_here : refuses (file_verdict len row f) ≡ false → file_row len row f ≡ filed_in row f (file_verdict len row f)
+  pub filed_so_lem : refuses (file_verdict len row f) ≡ false → file_row len row f ≡ filed_in row f (file_verdict len row f)
   unfolding file_row
-  filed_so_here e = rw e
+  filed_so_lem e = rw e
 
   pub not_filed_so : refuses (file_verdict len row f) ≡ true → file_row len row f ≡ not_filed row f (file_verdict len row f)
   unfolding file_row
   not_filed_so e = rw e
 
 module _ (len : ℕ) (row : List Ticket) (w : Withdrawal) where
-  pub withdrawn_so_here : refuses (withdraw_verdict len row w) ≡ false → withdraw_row len row w ≡ record { withdrawn = record { verdict = withdraw_verdict len row w; lasts = w.lasts }; row = row_left w row }
+  pub withdrawn_so_lem : refuses (withdraw_verdict len row w) ≡ false → withdraw_row len row w ≡ record { withdrawn = record { verdict = withdraw_verdict len row w; lasts = w.lasts }; row = row_left w row }
   unfolding withdraw_row
-  withdrawn_so_here e = rw e
+  withdrawn_so_lem e = rw e
 
   pub not_withdrawn_so : refuses (withdraw_verdict len row w) ≡ true → withdraw_row len row w ≡ record { withdrawn = record { verdict = withdraw_verdict len row w; lasts = w.lasts }; row = row }
   unfolding withdraw_row

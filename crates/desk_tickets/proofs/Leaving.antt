@@ -22,9 +22,9 @@ use Rattle.desk_tickets.specs.declared.WithdrawnRow.{WithdrawnRow}
 use Rattle.desk_tickets.specs.WaitingTable.{offices, places, all_places, no_ticket, up_to, first_place, waiting, placed, row_of, records_verdict, Sound}
 use Rattle.desk_tickets.specs.Withdrawals.{has_number, without_number, is_waiting, withdraw_verdict, withdraw_row}
 use Rattle.desk_tickets.specs.Private.{without_some, closed_up, index_of}
-use Rattle.desk_tickets.proofs.Halves.{tickets_at, tickets_fit, places_from, places-long, place-in-row, first_place_within}
+use Rattle.desk_tickets.proofs.Halves.{tickets_at, tickets_fit, places_from, places_long, place_in_row, first_place_within}
 use Rattle.desk_tickets.proofs.Sound.{and_true_both}
-use Rattle.desk_tickets.proofs.Placed.{placed_leaving, placed_long, closed-long, half-one, half-two, sound-long}
+use Rattle.desk_tickets.proofs.Placed.{placed_leaving, placed_long, closed_long, half_one, half_two, sound_long}
 use Rattle.desk_tickets.proofs.Storing.{accepted_sound, office_is}
 
 -- A ticket has the number exactly where its index is one of theirs; the tickets without it are those but the one there.
@@ -61,9 +61,9 @@ module _ (n : ℕ) where
   unfolding without_number
   without_later t ts e = rw e
 
-  pub has_index_here : (ts : List Ticket) → has_number n ts ≡ ltb (index_of n ts) (length ts)
-  has_index_here [] = has_end ∙ sym (rw index_end (le-ltb 0 0 (omega arith)))
-  has_index_here (t ∷ ts) = by_case (eqb t.number n) refl (has_index_here ts)
+  pub has_index_lem : (ts : List Ticket) → has_number n ts ≡ ltb (index_of n ts) (length ts)
+  has_index_lem [] = has_end ∙ sym (rw index_end (le-ltb 0 0 (omega arith)))
+  has_index_lem (t ∷ ts) = by_case (eqb t.number n) refl (has_index_lem ts)
     where
       by_case : (b : Bool) → eqb t.number n ≡ b → has_number n ts ≡ ltb (index_of n ts) (length ts) → has_number n (t ∷ ts) ≡ ltb (index_of n (t ∷ ts)) (suc (length ts))
       by_case true e rest = has_here t ts e ∙ sym (rw (index_here t ts e) (lt-ltb 0 (suc (length ts)) (omega arith)))
@@ -81,7 +81,7 @@ module _ (n : ℕ) where
       by_case false e rest = rw (without_later t ts e, index_later t ts e) (ap {B = List Ticket} (λ r. t ∷ r) (rest (sym (has_later t ts e) ∙ h)))
 
   pub index_in : (ts : List Ticket) → has_number n ts ≡ true → index_of n ts < length ts
-  index_in ts h = ltb-true (index_of n ts) (length ts) (sym (has_index_here ts) ∙ h)
+  index_in ts h = ltb-true (index_of n ts) (length ts) (sym (has_index_lem ts) ∙ h)
 
 -- Looked for one by one: not among the first i.
 pub record Sought (n : ℕ) (ts : List Ticket) (i : ℕ) : Type 0 where
@@ -89,8 +89,8 @@ pub record Sought (n : ℕ) (ts : List Ticket) (i : ℕ) : Type 0 where
   pub so : index_of n ts ≡ i + index_of n (drop i ts)
 
 module _ (n : ℕ) (ts : List Ticket) where
-  pub sought_none_here : Sought n ts 0
-  sought_none_here = record { within = omega arith; so = omega arith }
+  pub sought_none : Sought n ts 0
+  sought_none = record { within = omega arith; so = omega arith }
 
   at_place : (i : ℕ) → i < length ts → index_of n (drop i ts) ≡ index_of n (get_or ts i no_ticket ∷ drop (suc i) ts)
   at_place i l = ap (index_of n) (drop-cons ts i no_ticket l)
@@ -109,36 +109,36 @@ module _ (n : ℕ) (ts : List Ticket) where
 -- An office's waiting tickets in the row.
 module _ (office : ℕ) (row : List Ticket) (all : length row ≡ all_places) where
   pub waiting_few : length (waiting office row) ≤ places
-  waiting_few = rw (places-long (first_place office) row (first_place_within office) all) at (tickets_fit (places_from (first_place office) row))
+  waiting_few = rw (places_long (first_place office) row (first_place_within office) all) at (tickets_fit (places_from (first_place office) row))
 
   pub waiting_at : (i : ℕ) → i < length (waiting office row) → get_or row (first_place office + i) no_ticket ≡ get_or (waiting office row) i no_ticket
   waiting_at i l =
       let few = waiting_few in
-      sym ((tickets_at (places_from (first_place office) row) i l).0 ∙ place-in-row (first_place office) row (first_place_within office) all i (omega arith))
+      sym ((tickets_at (places_from (first_place office) row) i l).0 ∙ place_in_row (first_place office) row (first_place_within office) all i (omega arith))
 
 pub waits_elsewhere : (office n : ℕ) (row : List Ticket) → up_to offices office ≡ false → false ≡ is_waiting office n row
 waits_elsewhere office n row e = rw e
 
 pub waits_index : (office n : ℕ) (row : List Ticket) (i m : ℕ) → up_to offices office ≡ true → i ≡ index_of n (waiting office row) → m ≡ length (waiting office row) → ltb i m ≡ is_waiting office n row
-waits_index office n row i m e i-is m-is = rw (e, i-is, m-is) (sym (has_index_here n (waiting office row)))
+waits_index office n row i m e i-is m-is = rw (e, i-is, m-is) (sym (has_index_lem n (waiting office row)))
 
 -- A sound row's places closed up over one ticket.
 module _ (l : Lasts) (ones twos row : List Ticket) (s : Sound l ones twos row) (p : ℕ) where
   closed_one : p ≤ length ones → paste row 0 (closed_up 0 p 1 row) places ≡ row_of (without_some p 1 ones) twos
   closed_one in_ones =
-      let all = sound-long l ones twos row s in
+      let all = sound_long l ones twos row s in
       let back : drop places row ≡ placed twos = ap (drop places) s.is ∙ drop_at (placed ones) (placed twos) places (placed_long ones s.one.few) in
-      let g : closed_up 0 p 1 row ≡ placed (without_some p 1 ones) = ap (λ h. placed (without_some p 1 h)) (half-one l ones twos row s) ∙ placed_leaving p 1 ones s.one.few in_ones in
-      ap (λ r. r ++ drop places row) (take_all places (closed_up 0 p 1 row) (omega (arith, closed-long 0 row (omega arith) all p 1)))
+      let g : closed_up 0 p 1 row ≡ placed (without_some p 1 ones) = ap (λ h. placed (without_some p 1 h)) (half_one l ones twos row s) ∙ placed_leaving p 1 ones s.one.few in_ones in
+      ap (λ r. r ++ drop places row) (take_all places (closed_up 0 p 1 row) (omega (arith, closed_long 0 row (omega arith) all p 1)))
       ∙ ap (λ r. r ++ drop places row) g
       ∙ ap (λ r. placed (without_some p 1 ones) ++ r) back
 
   closed_two : p ≤ length twos → paste row places (closed_up places p 1 row) places ≡ row_of ones (without_some p 1 twos)
   closed_two in-twos =
-      let all = sound-long l ones twos row s in
-      let g : closed_up places p 1 row ≡ placed (without_some p 1 twos) = ap (λ h. placed (without_some p 1 h)) (half-two l ones twos row s) ∙ placed_leaving p 1 twos s.two.few in-twos in
-      ap (λ r. take places row ++ r ++ drop all_places row) (take_all places (closed_up places p 1 row) (omega (arith, closed-long places row (omega arith) all p 1)) ∙ g)
-      ∙ ap (λ r. r ++ placed (without_some p 1 twos) ++ drop all_places row) (half-one l ones twos row s)
+      let all = sound_long l ones twos row s in
+      let g : closed_up places p 1 row ≡ placed (without_some p 1 twos) = ap (λ h. placed (without_some p 1 h)) (half_two l ones twos row s) ∙ placed_leaving p 1 twos s.two.few in-twos in
+      ap (λ r. take places row ++ r ++ drop all_places row) (take_all places (closed_up places p 1 row) (omega (arith, closed_long places row (omega arith) all p 1)) ∙ g)
+      ∙ ap (λ r. r ++ placed (without_some p 1 twos) ++ drop all_places row) (half_one l ones twos row s)
       ∙ ap (λ r. placed ones ++ placed (without_some p 1 twos) ++ r) (drop_of_length-le row {i = all_places} (omega arith))
       ∙ append-nil (placed ones ++ placed (without_some p 1 twos))
 

@@ -14,7 +14,7 @@ use Rattle.desk_tickets.specs.declared.Ticket.{Ticket}
 use Rattle.desk_tickets.specs.declared.Lasts.{Lasts}
 use Rattle.desk_tickets.specs.WaitingTable.{places, all_places, no_ticket, is_empty_place, is_ticket, last_of, office_at, is_first_place, is_out_of_turn, bad_record, half, tickets_in, waiting, placed, row_of, Waits, Sound, row_without}
 use Rattle.desk_tickets.specs.Private.{without_some, closed_up}
-use Rattle.desk_tickets.proofs.Halves.{tickets_none, tickets_one, tickets_end, places_from, places-long, place-in-row}
+use Rattle.desk_tickets.proofs.Halves.{tickets_none, tickets_one, tickets_end, places_from, places_long, place_in_row}
 use Rattle.desk_tickets.proofs.Sound.{ticket_not_empty}
 
 empties : (m i : ℕ) → get_or (replicate m no_ticket) i no_ticket ≡ no_ticket
@@ -109,22 +109,22 @@ placed_leaving p n ts l in-ts =
 
 module _ (first : ℕ) (row : List Ticket) (in_row : first ≤ places) (all : length row ≡ all_places) (p n : ℕ) where
   pub closed_long : length (closed_up first p n row) ≡ places
-  closed_long = placed_long (without_some p n (places_from first row)) (omega (arith, leaving_long p n (places_from first row), places-long first row in_row all))
+  closed_long = placed_long (without_some p n (places_from first row)) (omega (arith, leaving_long p n (places_from first row), places_long first row in_row all))
 
   pub kept_here : (i : ℕ) → i < p → i < places → get_or row (first + i) no_ticket ≡ get_or (closed_up first p n row) i no_ticket
   kept_here i l in-half =
       sym (placed_at (without_some p n (places_from first row)) i
-      ∙ leaving_before p n (places_from first row) i l (rw (places-long first row in_row all) in-half)
-      ∙ place-in-row first row in_row all i in-half)
+      ∙ leaving_before p n (places_from first row) i l (rw (places_long first row in_row all) in-half)
+      ∙ place_in_row first row in_row all i in-half)
 
   closed_at : (i : ℕ) → p ≤ i → i < places → get_or (closed_up first p n row) i no_ticket ≡ get_or (places_from first row) (i + n) no_ticket
-  closed_at i l in-half = placed_at (without_some p n (places_from first row)) i ∙ leaving_behind p n (places_from first row) i l (rw (places-long first row in_row all) (omega arith))
+  closed_at i l in-half = placed_at (without_some p n (places_from first row)) i ∙ leaving_behind p n (places_from first row) i l (rw (places_long first row in_row all) (omega arith))
 
   pub moved_here : (i : ℕ) → p ≤ i → i + n < places → get_or row (first + (i + n)) no_ticket ≡ get_or (closed_up first p n row) i no_ticket
-  moved_here i l in-half = sym (closed_at i l (omega arith) ∙ place-in-row first row in_row all (i + n) in-half)
+  moved_here i l in-half = sym (closed_at i l (omega arith) ∙ place_in_row first row in_row all (i + n) in-half)
 
   pub none_left : (i : ℕ) → p ≤ i → i < places → places ≤ i + n → no_ticket ≡ get_or (closed_up first p n row) i no_ticket
-  none_left i l in-half out = sym (closed_at i l in-half ∙ get_or-eq_default (places_from first row) no_ticket (rw (places-long first row in_row all) out))
+  none_left i l in-half out = sym (closed_at i l in-half ∙ get_or-eq_default (places_from first row) no_ticket (rw (places_long first row in_row all) out))
 
 -- Both offices' places closed up, one after the other.
 pub closed_both : (row : List Ticket) (one two : ℕ) → length row ≡ all_places
@@ -197,7 +197,7 @@ module _ (l : Lasts) (row : List Ticket) (office first : ℕ) (some : 0 < office
       empty : length ts ≤ i → bad_record l row (first + i) ≡ false
       empty h = let none : get_or row (first + i) no_ticket ≡ no_ticket = at i b ∙ get_or-eq_default ts no_ticket h in rw none
 
-      in_turn : (j : ℕ) → j < places → j < length ts → is_out_of_turn row (first + j) ≡ false
+      in_turn_here : (j : ℕ) → j < places → j < length ts → is_out_of_turn row (first + j) ≡ false
       in_turn_here zero c d = rw begins
       in_turn_here (suc j) c d =
           let one_before : (first + suc j) - 1 ≡ first + j = omega arith in
@@ -226,11 +226,11 @@ none_bad l ones twos row s =
     one : (i : ℕ) → i < places → bad_record l row (0 + i) ≡ false
     one =
         not_bad l row 1 0 (omega arith) ones s.one
-        (λ i b. sym (place-in-row 0 row (omega arith) (sound_long l ones twos row s) i b) ∙ ap (λ h. get_or h i no_ticket) (half_one l ones twos row s) ∙ placed_at ones i)
+        (λ i b. sym (place_in_row 0 row (omega arith) (sound_long l ones twos row s) i b) ∙ ap (λ h. get_or h i no_ticket) (half_one l ones twos row s) ∙ placed_at ones i)
         (λ i b. rw (lt-ltb (0 + i) 16 (omega arith))) refl
 
     two : (i : ℕ) → i < places → bad_record l row (16 + i) ≡ false
     two =
         not_bad l row 2 16 (omega arith) twos s.two
-        (λ i b. sym (place-in-row 16 row (omega arith) (sound_long l ones twos row s) i b) ∙ ap (λ h. get_or h i no_ticket) (half_two l ones twos row s) ∙ placed_at twos i)
+        (λ i b. sym (place_in_row 16 row (omega arith) (sound_long l ones twos row s) i b) ∙ ap (λ h. get_or h i no_ticket) (half_two l ones twos row s) ∙ placed_at twos i)
         (λ i b. rw (le-ltb (16 + i) 16 (omega arith))) refl

@@ -40,8 +40,8 @@ module _ (office last : ℕ) (t : Ticket) where
   ticket_number o f c is = rw (eq-eqb t.office office o, f, c) is
 
 module _ (f : Filing) where
-  pub range_office_here : up_to offices f.office ≡ false → false ≡ in_range f
-  range_office_here h = rw h
+  pub range_office : up_to offices f.office ≡ false → false ≡ in_range f
+  range_office h = rw h
 
   pub range_tape : up_to offices f.office ≡ true → up_to f.files f.file ≡ false → false ≡ in_range f
   range_tape o h = rw (o, h)

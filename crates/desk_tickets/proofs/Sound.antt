@@ -11,11 +11,11 @@ use lib.ListN.{length, get_or, take, drop, replicate, length-replicate, get_or-r
 use lib.Seq.{ext_get_or, take_all}
 use borrow.Author.Tests.{eqb-true, ne_eqb, lt-ltb, le-ltb, ltb-true, not-true, not-false}
 use Rattle.refusals.specs.Refusals.{first_where}
-use Rattle.runs.proofs.Search.{true_or_false, first-zero}
+use Rattle.runs.proofs.Search.{true_or_false, first_zero}
 use Rattle.desk_tickets.specs.declared.Ticket.{Ticket}
 use Rattle.desk_tickets.specs.declared.Lasts.{Lasts}
 use Rattle.desk_tickets.specs.WaitingTable.{places, all_places, no_ticket, is_empty_place, is_ticket, follows, last_of, office_at, is_first_place, is_out_of_turn, bad_record, tickets_in, waiting, placed, Waits, Sound, up_to}
-use Rattle.desk_tickets.proofs.Halves.{tickets_none, tickets_one, tickets_end, tickets_at, tickets_fit, places_from, places-long, place-in-row}
+use Rattle.desk_tickets.proofs.Halves.{tickets_none, tickets_one, tickets_end, tickets_at, tickets_fit, places_from, places_long, place_in_row}
 
 pub and_true_both : (a b : Bool) → (a && b) ≡ true → (a ≡ true) × (b ≡ true)
 and_true_both true b e = (refl, e)
@@ -104,14 +104,14 @@ module _ (lasts : Lasts) (row : List Ticket) (all : length row ≡ all_places) (
       → (is_ticket (office_at i) (last_of (office_at i) lasts) (get_or row i no_ticket) ≡ true) × (is_out_of_turn row i ≡ false)
   record_fine i l full =
       by_tests (is_empty_place (get_or row i no_ticket)) (is_ticket (office_at i) (last_of (office_at i) lasts) (get_or row i no_ticket)) (is_out_of_turn row i) full
-      (first-zero (bad_record lasts row) all_places none i l)
+      (first_zero (bad_record lasts row) all_places none i l)
     where
       by_tests : (e t b : Bool) → e ≡ false → (not e && (not t || b)) ≡ false → (t ≡ true) × (b ≡ false)
       by_tests true t b h g = absurd (true≢false h)
       by_tests false true b h g = (refl, g)
       by_tests false false b h g = absurd (true≢false g)
 
-  in_turn : (i j : ℕ) → suc j ≡ i → is_first_place i ≡ false → is_out_of_turn row i ≡ false → follows (get_or row j no_ticket) (get_or row i no_ticket) ≡ true
+  in_turn_here : (i j : ℕ) → suc j ≡ i → is_first_place i ≡ false → is_out_of_turn row i ≡ false → follows (get_or row j no_ticket) (get_or row i no_ticket) ≡ true
   in_turn_here i j e f h =
       let g : not (follows (get_or row (i - 1) no_ticket) (get_or row i no_ticket)) ≡ false = rw f at h in
       let same : i - 1 ≡ j = omega arith in
@@ -119,37 +119,37 @@ module _ (lasts : Lasts) (row : List Ticket) (all : length row ≡ all_places) (
 
   fine_one : Fine 1 lasts.one (places_from 0 row)
   fine_one i l full =
-      let below : i < 16 = rw (places-long 0 row (omega arith) all) at l in
-      let full' : is_empty_place (get_or row (0 + i) no_ticket) ≡ false = rw (place-in-row 0 row (omega arith) all i below) at full in
+      let below : i < 16 = rw (places_long 0 row (omega arith) all) at l in
+      let full' : is_empty_place (get_or row (0 + i) no_ticket) ≡ false = rw (place_in_row 0 row (omega arith) all i below) at full in
       let zero-on : 0 + i ≡ i = omega arith in
       let here = record_fine i (omega arith) (rw zero-on at full') in (
-        rw (place-in-row 0 row (omega arith) all i below, zero-on) (rw (lt-ltb i 16 below) at here.0),
+        rw (place_in_row 0 row (omega arith) all i below, zero-on) (rw (lt-ltb i 16 below) at here.0),
         λ j e.
             let lj : j < 16 = omega arith in
             let zj : 0 + j ≡ j = omega arith in
-            rw (place-in-row 0 row (omega arith) all j lj, place-in-row 0 row (omega arith) all i below, zj, zero-on)
+            rw (place_in_row 0 row (omega arith) all j lj, place_in_row 0 row (omega arith) all i below, zj, zero-on)
             (in_turn_here i j e (rw (ne_eqb i 0 (λ z. omega arith), ne_eqb i 16 (λ z. omega arith))) here.1),
       )
 
   fine_two : Fine 2 lasts.two (places_from 16 row)
   fine_two i l full =
-      let below : i < 16 = rw (places-long 16 row (omega arith) all) at l in
-      let full' : is_empty_place (get_or row (16 + i) no_ticket) ≡ false = rw (place-in-row 16 row (omega arith) all i below) at full in
+      let below : i < 16 = rw (places_long 16 row (omega arith) all) at l in
+      let full' : is_empty_place (get_or row (16 + i) no_ticket) ≡ false = rw (place_in_row 16 row (omega arith) all i below) at full in
       let here = record_fine (16 + i) (omega arith) full' in (
-        rw (place-in-row 16 row (omega arith) all i below) (rw (le-ltb (16 + i) 16 (omega arith)) at here.0),
+        rw (place_in_row 16 row (omega arith) all i below) (rw (le-ltb (16 + i) 16 (omega arith)) at here.0),
         λ j e.
             let lj : j < 16 = omega arith in
-            rw (place-in-row 16 row (omega arith) all j lj, place-in-row 16 row (omega arith) all i below)
+            rw (place_in_row 16 row (omega arith) all j lj, place_in_row 16 row (omega arith) all i below)
             (in_turn_here (16 + i) (16 + j) (omega arith) (rw (ne_eqb (16 + i) 0 (λ z. omega arith), ne_eqb (16 + i) 16 (λ z. omega arith))) here.1),
       )
 
   half_placed : (office last first : ℕ) → first ≤ places → Fine office last (places_from first row) → places_from first row ≡ placed (tickets_in (places_from first row))
-  half_placed office last first l fine = rw (places-long first row l all) at (fine_placed office last (places_from first row) fine)
+  half_placed office last first l fine = rw (places_long first row l all) at (fine_placed office last (places_from first row) fine)
 
   half_waits : (office last first : ℕ) → first ≤ places → Fine office last (places_from first row) → Waits office last (tickets_in (places_from first row))
   half_waits office last first l fine =
       record {
-        few = rw (places-long first row l all) at (tickets_fit (places_from first row));
+        few = rw (places_long first row l all) at (tickets_fit (places_from first row));
         each = fine_tickets office last (places_from first row) fine;
         ascends = fine_ascends office last (places_from first row) fine;
       }

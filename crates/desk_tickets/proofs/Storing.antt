@@ -20,8 +20,8 @@ use Rattle.desk_tickets.specs.declared.Filing.{Filing}
 use Rattle.desk_tickets.specs.declared.FiledRow.{FiledRow}
 use Rattle.desk_tickets.specs.WaitingTable.{offices, places, all_places, up_to, last_of, waiting, row_of, bad_record, records_verdict, first_place, Sound}
 use Rattle.desk_tickets.specs.Filings.{in_range, is_full, most_number, is_spent, file_verdict, number_for, lasts_with, ticket_of, not_filed, file_row}
-use Rattle.desk_tickets.proofs.Sound.{row-sound, and_true_both}
-use Rattle.desk_tickets.proofs.Placed.{row-more-one, row-more-two}
+use Rattle.desk_tickets.proofs.Sound.{row_sound, and_true_both}
+use Rattle.desk_tickets.proofs.Placed.{row_more_one, row_more_two}
 
 -- Acceptance of a row: it is long enough, and no record is bad.
 pub row_accepted : (len : ℕ) (row : List Ticket) (l : Lasts) → refuses (records_verdict len row l) ≡ false → first_where (bad_record l row) all_places ≡ 0
@@ -31,7 +31,7 @@ row_accepted len row l e =
     accepts_at (first_where (bad_record l row) all_places) BadRecord refl each.1.0
 
 pub accepted_sound : (len : ℕ) (row : List Ticket) (l : Lasts) → length row ≡ all_places → refuses (records_verdict len row l) ≡ false → Sound l (waiting 1 row) (waiting 2 row) row
-accepted_sound len row l all e = row-sound l row all (row_accepted len row l e)
+accepted_sound len row l all e = row_sound l row all (row_accepted len row l e)
 
 -- Acceptance of a filing.
 pub record Accepted (len : ℕ) (row : List Ticket) (f : Filing) : Type 0 where
@@ -81,10 +81,10 @@ store_at : (l : Lasts) (row : List Ticket) (t : Ticket) (o : ℕ) → Sound l (w
 store_at lasts row t o s which l = ⊎_elim at_one at_two which
   where
     at_one : o ≡ 1 → set row (first_place o + length (waiting o row)) t ≡ row_of (cond (eqb o 1) (waiting 1 row ++ t ∷ []) (waiting 1 row)) (cond (eqb o 2) (waiting 2 row ++ t ∷ []) (waiting 2 row))
-    at_one e = rw e (ap (λ r. set r (0 + length (waiting 1 row)) t) s.is ∙ row-more-one (waiting 1 row) (waiting 2 row) t (rw e at l))
+    at_one e = rw e (ap (λ r. set r (0 + length (waiting 1 row)) t) s.is ∙ row_more_one (waiting 1 row) (waiting 2 row) t (rw e at l))
 
     at_two : o ≡ 2 → set row (first_place o + length (waiting o row)) t ≡ row_of (cond (eqb o 1) (waiting 1 row ++ t ∷ []) (waiting 1 row)) (cond (eqb o 2) (waiting 2 row ++ t ∷ []) (waiting 2 row))
-    at_two e = rw e (ap (λ r. set r (places + length (waiting 2 row)) t) s.is ∙ row-more-two (waiting 1 row) (waiting 2 row) t s.one.few (rw e at l))
+    at_two e = rw e (ap (λ r. set r (places + length (waiting 2 row)) t) s.is ∙ row_more_two (waiting 1 row) (waiting 2 row) t s.one.few (rw e at l))
 
 module _ (len : ℕ) (row : List Ticket) (f : Filing) (v : Verdict) (is : v ≡ file_verdict len row f) where
   pub file_refused : refuses v ≡ true → not_filed row f v ≡ file_row len row f
@@ -100,9 +100,9 @@ module _ (len : ℕ) (row : List Ticket) (f : Filing) (v : Verdict) (is : v ≡ 
       })
       (file_row len row f)
   unfolding file_row
-  file_stored all e last p n given last-is p-is n-is given_is =
+  file_stored all e last p n given last_is p-is n-is given_is =
       let a = file_accepted len row f (rw is at e) in
-      let next : last + 1 ≡ number_for f = add-one last ∙ ap suc last-is in
+      let next : last + 1 ≡ number_for f = add-one last ∙ ap suc last_is in
       rw (← is, e, given_is, next, p-is, n-is)
       (ap {B = FiledRow} (λ r. record { filed = record { verdict = v; number = number_for f; lasts = lasts_with f.office (number_for f) f.lasts }; row = r })
       (store_at f.lasts row (ticket_of f) f.office (accepted_sound len row f.lasts all a.table) (office_is f.office (range_office f a.ranged)) a.free))

@@ -7,7 +7,7 @@ use native.Mathlib.Numerals.{add-one}
 use lib.ListN.{length, get_or, take, drop, drop_of_length-le, length-drop}
 use lib.Seq.{drop-cons, get_or-take, get_or-drop, length-take-le}
 use Rattle.text_pages.specs.Printing.{pair_line, Wrote, Put}
-use Rattle.text_pages.proofs.Pages.{wrote-both, wrote_on, wrote-within}
+use Rattle.text_pages.proofs.Pages.{wrote_both, wrote_on, wrote_within}
 use Rattle.desk_tickets.specs.declared.Ticket.{Ticket}
 use Rattle.desk_tickets.specs.WaitingTable.{no_ticket, waiting}
 use Rattle.desk_waits.specs.Waits.{waits_line, waits_lines, waiting_key, waiting_text}
@@ -43,7 +43,7 @@ module _ (row : List Ticket) (all : length row ≡ 32) (ones twos : ℕ) (waiter
   two_many : twos ≡ length (waiting 2 row)
   two_many = sym (tickets_long row all 16 twos (omega (arith, waiters.less))) ∙ ap length waiters.at_two
 
-  text_is : waits_lines 0 (take ones (drop 0 row)) ++ waits_lines 0 (take twos (drop 16 row)) ++ pair_line waiting_key ones twos ≡ waiting_text row
+  text_is_here : waits_lines 0 (take ones (drop 0 row)) ++ waits_lines 0 (take twos (drop 16 row)) ++ pair_line waiting_key ones twos ≡ waiting_text row
   unfolding waiting_text
   text_is = rw (waiters.at_one, waiters.at_two, one_many, two_many) refl
 
@@ -54,5 +54,5 @@ module _ (row : List Ticket) (all : length row ≡ 32) (ones twos : ℕ) (waiter
       → Put page₂ at₂ (pair_line waiting_key ones twos) 50 page₃ at₃
       → Wrote page 0 (waiting_text row) 4274 page₃ at₃
   text_wrote page page₁ page₂ page₃ at₁ at₂ at₃ room p q r =
-      let w = wrote_on (wrote-both p q) (omega (arith, waiters.few, waiters.less)) r in
-      wrote-within (subst (λ t. Wrote page 0 t (ones * 132 + twos * 132 + 50) page₃ at₃) text_is_here w) 4274 (omega (arith, waiters.few, waiters.less))
+      let w = wrote_on (wrote_both p q) (omega (arith, waiters.few, waiters.less)) r in
+      wrote_within (subst (λ t. Wrote page 0 t (ones * 132 + twos * 132 + 50) page₃ at₃) text_is_here w) 4274 (omega (arith, waiters.few, waiters.less))

@@ -16,7 +16,7 @@ use Rattle.sheet_writer.specs.Writing.{row_verdict, written_of, written_answer, 
 use Rattle.desk_tickets.specs.declared.Ticket.{Ticket}
 use Rattle.desk_tickets.specs.WaitingTable.{waiting, records_verdict, Sound}
 use Rattle.desk_tickets.proofs.Storing.{accepted_sound}
-use Rattle.desk_boardings.proofs.Who.{front-one, front-two}
+use Rattle.desk_boardings.proofs.Who.{front_one, front_two}
 use Rattle.desk_waits.specs.Waits.{any_lasts, waiting_text, waiting_verdict, WaitingTold}
 use Rattle.desk_waits.specs.Private.{Waiters}
 
@@ -53,11 +53,11 @@ module _ (len : ℕ) (row : List Ticket) (out : List ℕ) (v : Verdict) (v-is : 
 
     one : take (length (waiting 1 row)) (drop 0 row) ≡ waiting 1 row
     one =
-        front-one any_lasts (waiting 1 row) (waiting 2 row) row sound (length (waiting 1 row)) (omega arith) ∙ take_all (length (waiting 1 row)) (waiting 1 row) (omega arith)
+        front_one any_lasts (waiting 1 row) (waiting 2 row) row sound (length (waiting 1 row)) (omega arith) ∙ take_all (length (waiting 1 row)) (waiting 1 row) (omega arith)
 
     two : take (length (waiting 2 row)) (drop 16 row) ≡ waiting 2 row
     two =
-        front-two any_lasts (waiting 1 row) (waiting 2 row) row sound (length (waiting 2 row)) (omega arith) ∙ take_all (length (waiting 2 row)) (waiting 2 row) (omega arith)
+        front_two any_lasts (waiting 1 row) (waiting 2 row) row sound (length (waiting 2 row)) (omega arith) ∙ take_all (length (waiting 2 row)) (waiting 2 row) (omega arith)
 
     pub waiters_so : (ones twos : ℕ) → ones ≡ length (waiting 1 row) → twos ≡ length (waiting 2 row) → Waiters row ones twos
     waiters_so ones twos e₁ e₂ = record { few = rw e₁ sound.one.few; less = rw e₂ sound.two.few; at_one = rw e₁ one; at_two = rw e₂ two }

@@ -16,9 +16,9 @@ use Rattle.runs.specs.Run.{Run, most_files, most_reads, highest_turn, last_place
 use Rattle.runs.specs.Judging.{right_end}
 use Rattle.runs.specs.Judging.{bad_file, bad_want, table_checks, wants_checks, head_checks, judge_of}
 use Rattle.runs.proofs.Judged.{accepted_run}
-use Rattle.runs.proofs.Stops.{stops-few}
+use Rattle.runs.proofs.Stops.{stops_few}
 use Rattle.engine_stops.specs.Joining.{short_join_rows, join_verdict}
-use Rattle.engine_stops.proofs.Held.{fresh_rows, join-refused, join-judges}
+use Rattle.engine_stops.proofs.Held.{fresh_rows, join_refused, join_judges}
 use Rattle.engine_plain.specs.Plain.{uneven_wants, most_plain_wants}
 use Rattle.engine_plain.specs.Private.{comes_first, with24}
 
@@ -114,7 +114,7 @@ module _ (r : Run) where
   unfolding judge_of
   judge_on e = first_passes table (wants ∷ headed ∷ []) e
 
-  bad_want : ℕ
+  bad_want_here : ℕ
   bad_want = first_where (bad_want (length r.starts) r.numbers r.counts) (length r.numbers)
 
   table_early : refuses table ≡ true → comes_first table.refusal ≡ true
@@ -139,14 +139,14 @@ module _ (r : Run) where
   pub run_passed : refuses (first_of (run_checks r)) ≡ false → refuses (judge_of r) ≡ false
   run_passed e = (all_accept (run_checks r) e).1.1.1.0
 
-  pub run_few_here : refuses (first_of (run_checks r)) ≡ false → length r.numbers ≤ 8
-  run_few_here e = ltb-false 8 (length r.numbers) (accepts_if _ OverEightWants refl (all_accept (run_checks r) e).1.1.0)
+  pub run_few : refuses (first_of (run_checks r)) ≡ false → length r.numbers ≤ 8
+  run_few e = ltb-false 8 (length r.numbers) (accepts_if _ OverEightWants refl (all_accept (run_checks r) e).1.1.0)
 
   abbrev joined : Verdict
   joined = join_verdict r (fresh_rows 8)
 
-  pub few_stops_here : length r.numbers ≤ 8 → refuses (judge_of r) ≡ false → length (stops_of r) ≤ 8
-  few_stops_here few e = omega (arith, stops-few r (accepted_run r e))
+  pub few_stops : length r.numbers ≤ 8 → refuses (judge_of r) ≡ false → length (stops_of r) ≤ 8
+  few_stops few e = omega (arith, stops_few r (accepted_run r e))
 
   join_late : Late (judge_of r) → Late (joined)
   unfolding join_verdict
@@ -167,17 +167,17 @@ module _ (r : Run) where
           with24_over (joined) (length r.numbers) l many
           ∙ first_refuses (refuse_if (ltb most_plain_wants (length r.numbers)) OverEightWants) (judge_of r ∷ []) (ap (λ b. refuses (refuse_if b OverEightWants)) many) ∙ sym passed
       go false few =
-          with24_few (joined) (length r.numbers) l few ∙ join-judges r 8 (few_stops_here (ltb-false 8 (length r.numbers) few)) ∙ sym judge_alone_here
+          with24_few (joined) (length r.numbers) l few ∙ join_judges r 8 (few_stops (ltb-false 8 (length r.numbers) few)) ∙ sym judge_alone_here
           ∙ sym (first_passes (refuse_if (ltb most_plain_wants (length r.numbers)) OverEightWants) (judge_of r ∷ []) (ap (λ b. refuses (refuse_if b OverEightWants)) few)) ∙ sym passed
 
   kept : (v : Verdict) → comes_first v.refusal ≡ true → refuses v ≡ true → judge_of r ≡ v → with24 (joined) (length r.numbers) ≡ v
   kept v e h is =
-      let j : joined ≡ v = join-refused r 8 (ap refuses is ∙ h) ∙ is in
+      let j : joined ≡ v = join_refused r 8 (ap refuses is ∙ h) ∙ is in
       ap (λ x. with24 x (length r.numbers)) j ∙ with24_kept v (length r.numbers) e
 
   -- What the code makes of the joining's verdict is the first of these checks.
-  pub verdict_is_here : with24 (joined) (length r.numbers) ≡ first_of (run_checks r)
-  verdict_is_here = by_table (refuses table) refl
+  pub verdict_is : with24 (joined) (length r.numbers) ≡ first_of (run_checks r)
+  verdict_is = by_table (refuses table) refl
     where
       behind_table : List Verdict
       behind_table = refuse_if (ltb most_plain_wants (length r.numbers)) OverEightWants ∷ judge_of r ∷ []

@@ -21,13 +21,13 @@ use Rattle.engine_stops.specs.declared.Joined.{Joined}
 use Rattle.engine_stops.specs.Joining.{JoinRows, join_answer, join_rows_of, length_of}
 use Rattle.engine_stops.proofs.Held.{fresh_rows, Front}
 use Rattle.engine_stops.proofs.Held as held
-use Rattle.engine_stops.proofs.Table.{joined-reads}
+use Rattle.engine_stops.proofs.Table.{joined_reads}
 use Rattle.least.specs.Recurrence.{plan_detours, best, least_list, file_at, left_at, right_at, count_at}
-use Rattle.least.proofs.Times.{starts-rise}
+use Rattle.least.proofs.Times.{starts_rise}
 use Rattle.least.proofs.Walks.{sound_spaced}
 use Rattle.least.proofs.LeastList.{least_list_none, least_list_some}
 use Rattle.engine_plain.specs.Private.{start_at, stop_end, reads_at, name_of, Laid, StopRows, ListWritten, list_at, with24}
-use Rattle.engine_plain.proofs.Checks.{run_checks, run-passed, run_few, few_stops, verdict_is}
+use Rattle.engine_plain.proofs.Checks.{run_checks, run_passed, run_few, few_stops, verdict_is}
 use Rattle.least.proofs.Best.{best_none}
 use Rattle.engine_plain.proofs.Overlays.{written_same}
 use Rattle.engine_plain.proofs.Listed.{list_few}
@@ -54,7 +54,7 @@ module _ (ss : List Stop) (m : ℕ) (ok : Sound ss m) where
       (λ h. omega (arith, column_at (λ s. s.start) refl ss i, column_at length_of refl ss i, ap (λ s. s.start) (beyond ss i (omega arith)), ap (λ s. s.end) (beyond ss i (omega arith))))
 
   rising : (i j : ℕ) → i ≤ j → j < length ss → left_at ss i ≤ left_at ss j
-  rising i j h l = starts-rise (left_at ss) (right_at ss) (length ss - 1) (sound_spaced ss m (length ss - 1) ok (omega arith)) i j h (omega arith)
+  rising i j h l = starts_rise (left_at ss) (right_at ss) (length ss - 1) (sound_spaced ss m (length ss - 1) ok (omega arith)) i j h (omega arith)
 
   -- The list of the rows is the least list.
   abbrev listBy : ℕ → ℕ → List Detour
@@ -97,28 +97,28 @@ module _ (r : Run) (accepts : refuses (judge_of r) ≡ false) where
         rising = λ i j h l. omega (arith, column_at (λ s. s.start) refl (stops_of r) i, column_at (λ s. s.start) refl (stops_of r) j, rising (stops_of r) r.head ok_run i j h (omega (arith, length-map (stops_of r) (λ s. s.start))));
         near = λ i l. omega (arith, end_at_here (stops_of r) r.head ok_run i, ok_run.reached i (omega (arith, length-map (stops_of r) (λ s. s.start))), good.start.near);
         cheap = good.start.cheap;
-        few = omega (arith, joined-reads r accepts, good.wants.reads);
+        few = omega (arith, joined_reads r accepts, good.wants.reads);
       }
 
-  pub stop_rows_here : StopRows (map (λ s. s.file) (stops_of r)) (map (λ s. s.start) (stops_of r)) (map length_of (stops_of r)) (map (λ s. s.count) (stops_of r)) r.turn
-  stop_rows_here = record { laid = stops_laid; named = length-map (stops_of r) (λ s. s.file) ∙ sym (length-map (stops_of r) (λ s. s.start)) }
+  pub stop_rows_lem : StopRows (map (λ s. s.file) (stops_of r)) (map (λ s. s.start) (stops_of r)) (map length_of (stops_of r)) (map (λ s. s.count) (stops_of r)) r.turn
+  stop_rows_lem = record { laid = stops_laid; named = length-map (stops_of r) (λ s. s.file) ∙ sym (length-map (stops_of r) (λ s. s.start)) }
 
 module _ (r : Run) (j : Joined) (after : JoinRows) (j-is : j ≡ join_answer r (fresh_rows 8)) (after_is : after ≡ join_rows_of r (fresh_rows 8)) where
-  pub join_verdict_here : (v : Verdict) → v ≡ with24 j.verdict (length r.numbers) → v ≡ first_of (run_checks r)
+  pub join_verdict_lem : (v : Verdict) → v ≡ with24 j.verdict (length r.numbers) → v ≡ first_of (run_checks r)
   unfolding join_answer
-  join_verdict_here v is = is ∙ ap (λ x. with24 x.verdict (length r.numbers)) j-is ∙ verdict_is r
+  join_verdict_lem v is = is ∙ ap (λ x. with24 x.verdict (length r.numbers)) j-is ∙ verdict_is r
 
   module _ (passes : refuses (first_of (run_checks r)) ≡ false) where
     pub join_stops : j.stops ≡ length (stops_of r)
-    join_stops = held.join-stops r 8 (few_stops r (run_few r passes)) j after j-is after_is (run-passed r passes)
+    join_stops = held.join-stops r 8 (few_stops r (run_few r passes)) j after j-is after_is (run_passed r passes)
 
     pub join_front : Front j.stops after (stops_of r)
-    join_front = held.join_front r 8 (few_stops r (run_few r passes)) j after j-is after_is (run-passed r passes)
+    join_front = held.join_front r 8 (few_stops r (run_few r passes)) j after j-is after_is (run_passed r passes)
 
 -- What the writing asks of rows whose first entries are the stops', and what it writes.
 module _ (r : Run) (accepts : refuses (judge_of r) ≡ false) (k : ℕ) (rows : JoinRows) (f : Front k rows (stops_of r)) where
   pub front_rows : StopRows (take k rows.firsts) (take k rows.lefts) (take k rows.spans) (take k rows.reads) r.turn
-  front_rows = rw (f.firsts.1, f.lefts.1, f.spans.1, f.reads.1) (stop_rows_here r accepts)
+  front_rows = rw (f.firsts.1, f.lefts.1, f.spans.1, f.reads.1) (stop_rows_lem r accepts)
 
   pub front_long : length (take k rows.lefts) ≡ length (stops_of r)
   front_long = ap length f.lefts.1 ∙ length-map (stops_of r) (λ s. s.start)

@@ -69,9 +69,9 @@ pub written_same : (l l' : List Detour) (n next : ℕ) (froms tos froms' tos' : 
 written_same l l' n next froms tos froms' tos' e w = rw (← e) w
 
 module _ (inner rest : List Detour) (d : Detour) (n at next : ℕ) (froms tos froms₁ tos₁ froms' tos' : List ℕ) (i : ListWritten inner n at froms tos froms₁ tos₁) where
-  pub written_more_here : at < length froms → at < length tos → (list : List Detour) → list ≡ inner ++ d ∷ rest
+  pub written_more : at < length froms → at < length tos → (list : List Detour) → list ≡ inner ++ d ∷ rest
       → ListWritten rest (at + 1) next (set froms₁ at d.from) (set tos₁ at d.to) froms' tos' → ListWritten list n next froms tos froms' tos'
-  written_more_here h k list is r =
+  written_more h k list is r =
       record {
         behind = rw is (omega (arith, r.behind, i.behind, length-append inner (d ∷ rest)));
         starts = r.starts ∙ ap (λ row. overlay (at + 1) (map (λ d. d.from) rest) (set row at d.from)) i.starts

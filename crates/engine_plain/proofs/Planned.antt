@@ -59,9 +59,9 @@ module _ (r : Run) (rows : PlainRows) where
       }
 
   module _ (v : Verdict) (f : Bool) (v-is : v ≡ first_of (run_checks r)) (f-is : f ≡ is_refusal v.refusal) where
-    pub run_refused_here : f ≡ true → (a : Answer) → a ≡ refusal_answer v → PlainPlans r rows a rows
+    pub run_refused : f ≡ true → (a : Answer) → a ≡ refusal_answer v → PlainPlans r rows a rows
     unfolding plain_verdict rows_check
-    run_refused_here e a s =
+    run_refused e a s =
         refused_so_here v (v-is ∙ sym (first_of_both (run_checks r) (rows_check ∷ []) (ap refuses (sym v-is) ∙ sym f-is ∙ e))) (sym f-is ∙ e) a s
 
     pub checks_pass : f ≡ false → refuses (first_of (run_checks r)) ≡ false
@@ -73,8 +73,8 @@ module _ (r : Run) (rows : PlainRows) where
       unfolding plain_verdict rows_check
       rows_decide = second_of_both (run_checks r) (rows_check ∷ []) (checks_pass passed) ∙ ap (λ b. first_of (refuse_if b ShortRow ∷ [])) (sym (rw k-is at g-is))
 
-      pub rows_refused_here : g ≡ true → (a : Answer) → a ≡ refusal_answer (record { refusal = ShortRow; place = 0 }) → PlainPlans r rows a rows
-      rows_refused_here e a s = refused_so_here (record { refusal = ShortRow; place = 0 }) (sym (rows_decide ∙ ap (λ b. first_of (refuse_if b ShortRow ∷ [])) e)) refl a s
+      pub rows_refused_lem : g ≡ true → (a : Answer) → a ≡ refusal_answer (record { refusal = ShortRow; place = 0 }) → PlainPlans r rows a rows
+      rows_refused_lem e a s = refused_so_here (record { refusal = ShortRow; place = 0 }) (sym (rows_decide ∙ ap (λ b. first_of (refuse_if b ShortRow ∷ [])) e)) refl a s
 
       pub run_planned : g ≡ false → (a : Answer) (end : PlainRows) → PlainPlanned r rows a end → PlainPlans r rows a end
       run_planned e a end p =

@@ -29,16 +29,16 @@ module _ (reads : List ℕ) where
   unfolding reads_up_to
   reads_more i = rw (add-one i) (W-suc (reads_at reads) i)
 
-  pub reads_rise_here : (i j : ℕ) → i ≤ j → reads_up_to reads i ≤ reads_up_to reads j
+  pub reads_rise : (i j : ℕ) → i ≤ j → reads_up_to reads i ≤ reads_up_to reads j
   unfolding reads_up_to
-  reads_rise_here i j h = W-rises (reads_at reads) i j h
+  reads_rise i j h = W-rises (reads_at reads) i j h
 
   reads_first : (n : ℕ) → n ≤ length reads → total (take n reads) ≡ reads_up_to reads n
   unfolding reads_up_to
   reads_first n h = total_first reads n h
 
-  pub reads_counted_here : (n : ℕ) → n ≤ length reads → total reads ≤ most_reads → counted_reads (take n reads) ≡ reads_up_to reads n
-  reads_counted_here n h small = counted_exact (take n reads) (omega (arith, total_part reads n)) ∙ reads_first n h
+  pub reads_counted : (n : ℕ) → n ≤ length reads → total reads ≤ most_reads → counted_reads (take n reads) ≡ reads_up_to reads n
+  reads_counted n h small = counted_exact (take n reads) (omega (arith, total_part reads n)) ∙ reads_first n h
 
   pub reads_within : (n : ℕ) → n ≤ length reads → reads_up_to reads n ≤ total reads
   reads_within n h = omega (arith, reads_first n h, total_part reads n)
@@ -47,8 +47,8 @@ module _ (lefts spans reads : List ℕ) (turn : ℕ) (l : Laid lefts spans reads
   pub left_near : (i : ℕ) → i < length lefts → get_or lefts i 0 ≤ last_place
   left_near i h = omega (arith, l.near i h)
 
-  pub count_few_here : (i : ℕ) → i < length lefts → get_or reads i 0 ≤ most_reads
-  count_few_here i h = omega (arith, reads_more reads i, reads_within reads (i + 1) (omega (arith, l.even_reads)), l.few)
+  pub count_few : (i : ℕ) → i < length lefts → get_or reads i 0 ≤ most_reads
+  count_few i h = omega (arith, reads_more reads i, reads_within reads (i + 1) (omega (arith, l.even_reads)), l.few)
 
 pub early_small : (lefts reads : List ℕ) (a b : ℕ) → EarlyFits lefts reads a b → 2 * (get_or lefts b 0 - get_or lefts a 0) * get_or reads b 0 ≤ 2 * last_place * most_reads
 early_small lefts reads a b f =
@@ -64,13 +64,13 @@ module _ (lefts spans reads : List ℕ) (turn a b s : ℕ) (q : Asked lefts span
         left = h;
         onward = q.laid.rising c b h q.inside;
         near = left_near lefts spans reads turn q.laid b q.inside;
-        few = count_few_here lefts spans reads turn q.laid b q.inside;
+        few = count_few lefts spans reads turn q.laid b q.inside;
       }
 
   pub waiting_few : a ≤ b → reads_up_to reads a + s ≤ most_reads
-  waiting_few h = omega (arith, q.span, reads_rise_here reads a (b + 1) (omega arith))
+  waiting_few h = omega (arith, q.span, reads_rise reads a (b + 1) (omega arith))
 
-  pub wait_small_here : a ≤ b → 2 * (turn + (end_at lefts spans b - get_or lefts a 0)) * (reads_up_to reads a + s) ≤ 2 * (highest_turn + last_place) * most_reads
-  wait_small_here h =
+  pub wait_small : a ≤ b → 2 * (turn + (end_at lefts spans b - get_or lefts a 0)) * (reads_up_to reads a + s) ≤ 2 * (highest_turn + last_place) * most_reads
+  wait_small h =
       let dear : 2 * (turn + (end_at lefts spans b - get_or lefts a 0)) ≤ 2 * (highest_turn + last_place) = omega (arith, q.laid.cheap, q.laid.near b q.inside) in
       mul-le-mul dear (waiting_few h)

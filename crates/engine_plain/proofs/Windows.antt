@@ -13,10 +13,10 @@ use mir.Val.{Fits}
 use Rattle.runs.specs.Run.{last_place, highest_turn, most_reads}
 use Rattle.least.specs.Recurrence.{W, early, wait, lower, lowest, scan, candidate, choice}
 use Rattle.least.proofs.Scan.{lowest_one_more, lowest_end, scan_one_more, scan_end}
-use Rattle.least.proofs.Value.{value_none, value-step}
-use Rattle.least.proofs.Bounds.{candidate-bound}
+use Rattle.least.proofs.Value.{value_none, value_step}
+use Rattle.least.proofs.Bounds.{candidate_bound}
 use Rattle.engine_plain.specs.Private.{start_at, stop_end, reads_at, reads_up_to, Laid, Asked, MayChoose, worth, choice_worth, chosen_at}
-use Rattle.engine_plain.proofs.Sizes.{reads_more, reads_rise, left_near, asked-early, early_small, wait_small}
+use Rattle.engine_plain.proofs.Sizes.{reads_more, reads_rise, left_near, asked_early, early_small, wait_small}
 
 -- A window with a stop has one at its end, which lies in each row of the stops; and a number of reads fits a word.
 pub some_stop : (a b : ℕ) → a < b → 1 ≤ b
@@ -73,7 +73,7 @@ module _ (lefts spans reads : List ℕ) (turn a b s : ℕ) (q : Asked lefts span
   choice_small c h k =
       let e = back_one b h in
       let two : suc (suc (b - 1)) ≡ b + 1 = omega arith in
-      candidate-bound (start_at lefts) (stop_end lefts spans) (reads_at reads) turn last_place most_reads a (b - 1) s c
+      candidate_bound (start_at lefts) (stop_end lefts spans) (reads_at reads) turn last_place most_reads a (b - 1) s c
       (λ i m. left_near lefts spans reads turn q.laid i (omega (arith, q.inside)))
       (rw e (q.laid.near b q.inside))
       (omega (arith, ap (W (reads_at reads)) two, q.span))
@@ -89,15 +89,15 @@ module _ (lefts spans reads : List ℕ) (turn a b s : ℕ) (q : Asked lefts span
 
   module _ (c w e x : ℕ) (w-is : w ≡ wait (start_at lefts) (stop_end lefts spans) (reads_at reads) turn c b s) (e-is : e ≡ early (start_at lefts) (reads_at reads) c b)
       (x-is : x ≡ worth lefts spans reads turn c (b - 1) (s + get_or reads b 0)) (m : MayChoose a b c) (some : c ≡ 0 → ⊥) where
-    detour_parts : w + e + x + worth lefts spans reads turn a (c - 1) s ≡ choice_worth lefts spans reads turn a b s c
-    detour_parts = rw (w-is, e-is, x-is) (detour_is lefts spans reads turn a b s c (omega (arith, m.some)) (omega arith))
+    detour_parts_here : w + e + x + worth lefts spans reads turn a (c - 1) s ≡ choice_worth lefts spans reads turn a b s c
+    detour_parts_here = rw (w-is, e-is, x-is) (detour_is lefts spans reads turn a b s c (omega (arith, m.some)) (omega arith))
 
     pub detour_part_fits : w + e + x ≤ 2 * (turn + 2 * last_place) * most_reads
-    detour_part_fits = omega (arith, detour_parts, choice_small c (omega (arith, m.some)) m.up_to)
+    detour_part_fits = omega (arith, detour_parts_here, choice_small c (omega (arith, m.some)) m.up_to)
 
     module _ (y : ℕ) (y-is : y ≡ worth lefts spans reads turn a (c - 1) s) where
       pub detour_so : w + e + x + y ≡ choice_worth lefts spans reads turn a b s c
-      detour_so = rw y-is detour_parts
+      detour_so = rw y-is detour_parts_here
 
       pub detour_fits : w + e + x + y ≤ 2 * (turn + 2 * last_place) * most_reads
       detour_fits = omega (arith, detour_so, choice_small c (omega (arith, m.some)) m.up_to)
@@ -105,7 +105,7 @@ module _ (lefts spans reads : List ℕ) (turn a b s : ℕ) (q : Asked lefts span
   pub two_fit : (w e : ℕ) → w ≡ wait (start_at lefts) (stop_end lefts spans) (reads_at reads) turn a b s → e ≡ early (start_at lefts) (reads_at reads) a b → a ≤ b
       → w + e ≤ 2 * (highest_turn + last_place) * most_reads + 2 * last_place * most_reads
   unfolding reads_up_to
-  two_fit w e w-is e-is h = omega (arith, w-is, e-is, wait_small lefts spans reads turn a b s q h, early_small lefts reads a b (asked-early lefts spans reads turn a b s q a h))
+  two_fit w e w-is e-is h = omega (arith, w-is, e-is, wait_small lefts spans reads turn a b s q h, early_small lefts reads a b (asked_early lefts spans reads turn a b s q a h))
 
   pub no_window : b ≤ a → 0 ≡ worth lefts spans reads turn a b s
   no_window h = sym (value_none (start_at lefts) (stop_end lefts spans) (reads_at reads) turn a b s h)
@@ -140,7 +140,7 @@ module _ (lefts spans reads : List ℕ) (turn a b s : ℕ) where
       record {
         some = h;
         up_to = le_refl b;
-        left = rw (is) (sym (rw e at (value-step (start_at lefts) (stop_end lefts spans) (reads_at reads) turn a (b - 1) s (omega arith))));
+        left = rw (is) (sym (rw e at (value_step (start_at lefts) (stop_end lefts spans) (reads_at reads) turn a (b - 1) s (omega arith))));
       }
 
   module _ (least c : ℕ) (w : WindowLoop lefts spans reads turn a b s least c) where

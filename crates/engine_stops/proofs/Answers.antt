@@ -37,9 +37,9 @@ module _ (r : Run) (rows : JoinRows) (v : Verdict) (f : Bool) (v-is : v ≡ judg
   pub run_accepted : f ≡ false → refuses (judge_of r) ≡ false
   run_accepted e = run_says false e
 
-  pub run_refused_here : f ≡ true → Answered r rows (record { verdict = v; stops = 0 }) rows
+  pub run_refused : f ≡ true → Answered r rows (record { verdict = v; stops = 0 }) rows
   unfolding join_verdict
-  run_refused_here e =
+  run_refused e =
       refuse_so r rows v (v-is ∙ first_refuses (judge_of r) (refuse_if (short_join_rows (length (stops_of r)) rows) ShortRow ∷ []) (run_says true e)) (rw v-is (run_says true e))
 
   module _ (stops : ℕ) (stops-is : stops ≡ length (stops_of r)) (short : Bool) (short-is : short ≡ short_join_rows stops rows) (w : Verdict) (g : Bool)
@@ -50,11 +50,11 @@ module _ (r : Run) (rows : JoinRows) (v : Verdict) (f : Bool) (v-is : v ≡ judg
         last_if ShortRow refl w-is (short-is ∙ ap (λ k. short_join_rows k rows) stops-is)
         ∙ sym (first_passes (judge_of r) (refuse_if (short_join_rows (length (stops_of r)) rows) ShortRow ∷ []) (run_says false e))
 
-    pub rows_refused_here : f ≡ false → g ≡ true → Answered r rows (record { verdict = w; stops = 0 }) rows
-    rows_refused_here e d = refuse_so r rows w (verdict_is_here e) (sym g-is ∙ d)
+    pub rows_refused_lem : f ≡ false → g ≡ true → Answered r rows (record { verdict = w; stops = 0 }) rows
+    rows_refused_lem e d = refuse_so r rows w (verdict_is_here e) (sym g-is ∙ d)
 
-    pub rows_accepted_here : f ≡ false → g ≡ false → (after : JoinRows) → after ≡ join_rows_with (stops_of r) rows → Answered r rows (record { verdict = w; stops = stops }) after
-    rows_accepted_here e d after after_is = accept_so r rows after w stops (verdict_is_here e) (sym g-is ∙ d) stops-is after_is
+    pub rows_accepted : f ≡ false → g ≡ false → (after : JoinRows) → after ≡ join_rows_with (stops_of r) rows → Answered r rows (record { verdict = w; stops = stops }) after
+    rows_accepted e d after after_is = accept_so r rows after w stops (verdict_is_here e) (sym g-is ∙ d) stops-is after_is
 
     -- The rows are long enough.
     pub record LongRows : Type 0 where

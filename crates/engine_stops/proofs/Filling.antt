@@ -12,11 +12,11 @@ use Rattle.runs.specs.Judging.{judge_of}
 use Rattle.runs.specs.Private.{SoundTable, InTable}
 use Rattle.runs.proofs.Joined.{joined_fewer}
 use Rattle.runs.proofs.Judged.{GoodRun, accepted_run, wants_named}
-use Rattle.runs.proofs.Stops.{first_file_lem, wants-length, stops-few}
+use Rattle.runs.proofs.Stops.{first_file_lem, wants_length, stops_few}
 use Rattle.engine_stops.specs.declared.Place.{Place}
 use Rattle.engine_stops.specs.Joining.{row_with, length_of}
 use Rattle.engine_stops.specs.Private.{WantsFit, JoinFits, place_of, joins_next}
-use Rattle.engine_stops.proofs.Joining.{Added, Joins, Begins, Filled, added, stops-counted, joined_nothing, filled_at, filled_more, filled_none, filled_all, reads_fit, count_fits}
+use Rattle.engine_stops.proofs.Joining.{Added, Joins, Begins, Filled, added, stops_counted, joined_nothing, filled_at, filled_more, filled_none, filled_all, reads_fit, count_fits}
 
 -- The wants of an accepted run.
 pub good_fit : (r : Run) → GoodRun r → WantsFit r.aggregates r.numbers
@@ -49,19 +49,19 @@ good_rows r e =
       named = wants_named r.starts r.numbers r.counts good.wants;
       even = sym good.wants.equal;
       reads = good.wants.reads;
-      few = omega (arith, stops-few r good, good.wants.few);
+      few = omega (arith, stops_few r good, good.wants.few);
     }
 
 -- Where a stop lies, as the code finds it.
 pub place_is : (starts lengths aggregates : List ℕ) (f first last : ℕ) → 0 < f → first ≡ first_member aggregates (f - 1) → last ≡ last_member aggregates (f - 1)
     → record { first = first + 1; start = get_or starts first 0; length = (get_or starts last 0 + get_or lengths last 0) - get_or starts first 0 } ≡ place_of starts lengths aggregates f
-place_is starts lengths aggregates f first last l first-is last-is =
+place_is starts lengths aggregates f first last l first_is last_is =
     let name : first_member aggregates (f - 1) + 1 ≡ first_file aggregates f = omega (arith, first_file_lem aggregates f l) in
-    rw (first-is, last-is, ← name) refl
+    rw (first_is, last_is, ← name) refl
 
 none_left : (starts lengths aggregates ns cs : List ℕ) → length cs ≡ length ns → joined (drop (length ns) (want_stops starts lengths aggregates ns cs)) ≡ []
 none_left starts lengths aggregates ns cs even =
-    let past : length (want_stops starts lengths aggregates ns cs) ≤ length ns = omega (arith, wants-length starts lengths aggregates ns cs even) in
+    let past : length (want_stops starts lengths aggregates ns cs) ≤ length ns = omega (arith, wants_length starts lengths aggregates ns cs even) in
     ap joined (drop_of_length-le (want_stops starts lengths aggregates ns cs) past) ∙ joined_nothing
 
 all_left : (l : List Stop) → drop 0 l ≡ l
@@ -85,7 +85,7 @@ module _ (aggregates ns : List ℕ) where
         within = few same more-is;
         is = λ starts lengths cs even.
             more-is ∙ ap (λ b. cond b count (count + 1)) same-is
-            ∙ stops-counted starts lengths aggregates ns cs even m count (omega (arith, p.within)) (p.is starts lengths cs even ∙ ap (λ n. length (joined (drop n (want_stops starts lengths aggregates ns cs)))) (sym one));
+            ∙ stops_counted starts lengths aggregates ns cs even m count (omega (arith, p.within)) (p.is starts lengths cs even ∙ ap (λ n. length (joined (drop n (want_stops starts lengths aggregates ns cs)))) (sym one));
       }
     where
       few : (b : Bool) → more ≡ cond b count (count + 1) → more + m ≤ length ns
@@ -107,8 +107,8 @@ pub record Filling (starts lengths aggregates ns cs : List ℕ) (k : ℕ) (f₀ 
   pub reads : Filled (λ x. x.count) (joined (drop i (want_stops starts lengths aggregates ns cs))) k r₀ r at
 
 module _ (starts lengths aggregates ns cs : List ℕ) (even : length cs ≡ length ns) (k : ℕ) where
-  pub filling_none_here : (f l s r : List ℕ) → Filling starts lengths aggregates ns cs k f l s r f l s r k (length ns)
-  filling_none_here f l s r =
+  pub filling_none : (f l s r : List ℕ) → Filling starts lengths aggregates ns cs k f l s r f l s r k (length ns)
+  filling_none f l s r =
       let none = none_left starts lengths aggregates ns cs even in
       record {
         within = omega arith;

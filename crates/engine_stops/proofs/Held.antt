@@ -58,9 +58,9 @@ module _ (r : Run) (n : ℕ) where
             ∙ ap (λ b. first_of (refuse_if b ShortRow ∷ [])) (none_short (enough e)) ∙ sym (judge_accepted r e)
 
     module _ (j : Joined) (after : JoinRows) (j-is : j ≡ join_answer r (fresh_rows n)) (after_is : after ≡ join_rows_of r (fresh_rows n)) where
-      pub join_verdict_here : j.verdict ≡ judge_of r
+      pub join_verdict_lem : j.verdict ≡ judge_of r
       unfolding join_answer
-      join_verdict_here = ap (λ x. x.verdict) j-is ∙ join_judges
+      join_verdict_lem = ap (λ x. x.verdict) j-is ∙ join_judges
 
       module _ (accepts : refuses (judge_of r) ≡ false) where
         pub join_stops : j.stops ≡ length (stops_of r)

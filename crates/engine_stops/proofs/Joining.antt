@@ -13,9 +13,9 @@ use borrow.Author.Tests.{eqb-true, eqb-false, eq-eqb, ne_eqb, ltb-true, ltb-fals
 use Rattle.runs.specs.Run.{Stop, stop_of, want_stops, joined, join_to, merged, first_member, first_file, total}
 use Rattle.runs.specs.Lists.{leftmost}
 use Rattle.runs.proofs.Search.{true_or_false}
-use Rattle.runs.proofs.Numbers.{same-number-first, same-first-number}
+use Rattle.runs.proofs.Numbers.{same_number_first, same_first_number}
 use Rattle.runs.proofs.Joined.{join_none, join_same, join_other, leftmost_joined, some_joined, reads_of, reads_joined, reads_fewer, joined_fewer}
-use Rattle.runs.proofs.Stops.{first_file_lem, wants-length, wants-drop, wants-reads}
+use Rattle.runs.proofs.Stops.{first_file_lem, wants_length, wants_drop, wants_reads}
 use Rattle.engine_stops.specs.Joining.{row_with}
 use Rattle.engine_stops.specs.Private.{WantsFit, joins_next}
 
@@ -38,7 +38,7 @@ module _ (aggregates numbers : List ℕ) (fit : WantsFit aggregates numbers) (i 
         → first_file aggregates (get_or numbers i 0) ≡ first_file aggregates (get_or numbers (suc i) 0)
     unfolding here next
     same_name e some =
-        let first = same-number-first aggregates (length aggregates) fit.once here next
+        let first = same_number_first aggregates (length aggregates) fit.once here next
         (omega (arith, fit.named i (omega arith), fit.in_table i (omega arith)))
         (omega (arith, fit.named (suc i) l, fit.in_table (suc i) l))
         e
@@ -53,7 +53,7 @@ module _ (aggregates numbers : List ℕ) (fit : WantsFit aggregates numbers) (i 
         ⊎_elim
         (λ (same : here ≡ next). absurd (omega (arith, same, fit.rises i l, fit.named i (omega arith))))
         (λ both. both)
-        (same-first-number aggregates here next (omega (arith, e, named i (omega arith), named (suc i) l)))
+        (same_first_number aggregates here next (omega (arith, e, named i (omega arith), named (suc i) l)))
 
     pub next_zero : get_or aggregates (get_or numbers i 0 - 1) 0 ≡ 0 → false ≡ joins_next aggregates numbers i
     unfolding here next
@@ -110,7 +110,7 @@ module _ (starts lengths aggregates ns cs : List ℕ) (even : length cs ≡ leng
 
   joined_here : (i : ℕ) → i < length ns → joined (drop i wants) ≡ join_to (stop_of starts lengths aggregates (get_or ns i 0) (get_or cs i 0)) (joined (drop (suc i) wants))
   unfolding wants joined
-  joined_here i l = rw (wants-drop starts lengths aggregates ns cs even i l)
+  joined_here i l = rw (wants_drop starts lengths aggregates ns cs even i l)
 
   pub added : (i : ℕ) → i < length ns
       → Added (joins_next aggregates ns i) (stop_of starts lengths aggregates (get_or ns i 0) (get_or cs i 0))
@@ -122,14 +122,14 @@ module _ (starts lengths aggregates ns cs : List ℕ) (even : length cs ≡ leng
       w = stop_of starts lengths aggregates (get_or ns i 0) (get_or cs i 0)
 
       some : suc i < length ns → 0 < length (drop (suc i) wants)
-      some h = rw (length-drop (suc i) wants) (omega (arith, wants-length starts lengths aggregates ns cs even))
+      some h = rw (length-drop (suc i) wants) (omega (arith, wants_length starts lengths aggregates ns cs even))
 
       first : suc i < length ns → leftmost (joined (drop (suc i) wants)) ≡ first_file aggregates (get_or ns (suc i) 0)
-      first h = leftmost_joined (drop (suc i) wants) ∙ ap leftmost (wants-drop starts lengths aggregates ns cs even (suc i) h)
+      first h = leftmost_joined (drop (suc i) wants) ∙ ap leftmost (wants_drop starts lengths aggregates ns cs even (suc i) h)
 
       nothing : length ns ≤ suc i → joined (drop (suc i) wants) ≡ []
       nothing h =
-          let past : length wants ≤ suc i = omega (arith, wants-length starts lengths aggregates ns cs even) in
+          let past : length wants ≤ suc i = omega (arith, wants_length starts lengths aggregates ns cs even) in
           ap joined (drop_of_length-le wants past) ∙ joined_nothing
 
       by_next : (b : Bool) → ltb (suc i) (length ns) ≡ b
@@ -154,9 +154,9 @@ module _ (starts lengths aggregates ns cs : List ℕ) (even : length cs ≡ leng
         arith,
         ap reads_of e,
         reads_joined (drop (suc i) (want_stops starts lengths aggregates ns cs)),
-        ap reads_of (wants-drop starts lengths aggregates ns cs even i l),
+        ap reads_of (wants_drop starts lengths aggregates ns cs even i l),
         reads_fewer (want_stops starts lengths aggregates ns cs) i,
-        wants-reads starts lengths aggregates ns cs even,
+        wants_reads starts lengths aggregates ns cs even,
       )
 
   pub count_fits : (i : ℕ) → i < length ns → get_or cs i 0 ≤ total cs
@@ -164,9 +164,9 @@ module _ (starts lengths aggregates ns cs : List ℕ) (even : length cs ≡ leng
   count_fits i l =
       omega (
         arith,
-        ap reads_of (wants-drop starts lengths aggregates ns cs even i l),
+        ap reads_of (wants_drop starts lengths aggregates ns cs even i l),
         reads_fewer (want_stops starts lengths aggregates ns cs) i,
-        wants-reads starts lengths aggregates ns cs even,
+        wants_reads starts lengths aggregates ns cs even,
       )
 
 -- A row, filled from an index on with what the stops give, up to the last of so many; behind that it is as it was.

@@ -1,7 +1,7 @@
 -- Lists of the joined table and lists by first files: the same rules hold of both, and each list of the one kind is one of the other.
 use Prim.Native.Nat.{ℕ, zero, suc, ◌+◌, ◌-◌, ◌≤◌, ◌<◌}
 use mathlib.Core.Path.{◌≡◌, refl, sym, ap, ◌∙◌}
-use mathlib.Core.Bool.{Bool, true, false, not, cond, ◌||◌, true≢false, or_true}
+use mathlib.Core.Bool.{Bool, true, false, not, cond, ◌||◌, true≢false, or-true}
 use mathlib.Core.Logic.{⊎_elim}
 use mathlib.Core.List.{List, [], ◌∷◌, map}
 use native.Mathlib.Omega.{arith}
@@ -14,9 +14,9 @@ use borrow.Author.Tests.{eqb-true, eqb-false, eq-eqb, ne_eqb, not-false}
 use Rattle.runs.specs.Run.{Stop}
 use Rattle.runs.specs.Rows.{stop_at}
 use Rattle.runs.specs.Lists.{Detour, wanted, leftmost, bad_alone, bad_after, bad_entry, any_below, entry_of, first_bad_entry, WellFormed}
-use Rattle.runs.proofs.Search.{ltb_same, leb_not_ltb, true_or_false, or_false_both, first_same, first-zero, any_same}
+use Rattle.runs.proofs.Search.{ltb_same, leb_not_ltb, true_or_false, or_false_both, first_same, first_zero, any_same}
 use Rattle.runs.proofs.Sound.{Sound}
-use Rattle.runs.proofs.Formed.{names-rise, formed_names}
+use Rattle.runs.proofs.Formed.{names_rise, formed_names}
 use Rattle.engine_stops.specs.Private.{renumbered, name_of, entry_named, list_named}
 
 -- A number of the joined table.
@@ -32,7 +32,7 @@ wanted_counted n (s ∷ ss) a l h =
     let rest = wanted_counted (suc n) ss a in
     ⊎_elim
     (λ (e : n ≡ a). rw (eq-eqb n a e))
-    (λ (lt : n < a). rw (rest lt (omega arith), or_true))
+    (λ (lt : n < a). rw (rest lt (omega arith), or-true))
     (eq-or-lt_of_le l)
 
 counted_wanted : (n : ℕ) (ss : List Stop) (a : ℕ) → wanted (renumbered n ss) a ≡ true → (n ≤ a) × (a < n + length ss)
@@ -56,7 +56,7 @@ wanted_name : (ss : List Stop) (i : ℕ) → i < length ss → wanted ss (stop_a
 unfolding wanted
 wanted_name [] i l = absurd (omega arith)
 wanted_name (s ∷ ss) zero l = rw (eq-eqb s.file s.file refl)
-wanted_name (s ∷ ss) (suc i) l = rw (wanted_name ss i (omega arith), or_true)
+wanted_name (s ∷ ss) (suc i) l = rw (wanted_name ss i (omega arith), or-true)
 
 -- The number of a name: where it stands.
 unfoldable pub index_of : List Stop → ℕ → ℕ
@@ -95,7 +95,7 @@ entry_indexed ss d = record { from = index_of ss d.from; to = index_of ss d.to }
 module _ (ss : List Stop) (m : ℕ) (ok : Sound ss m) where
   -- Names rise with the numbers, so every comparison says the same of both.
   pub numbers_name : (a b : ℕ) → Within ss a → Within ss b → a < b → name_of ss a < name_of ss b
-  numbers_name a b x y l = names-rise ss m ok (a - 1) (b - 1) (omega (arith, x.least)) (omega (arith, y.least, y.most))
+  numbers_name a b x y l = names_rise ss m ok (a - 1) (b - 1) (omega (arith, x.least)) (omega (arith, y.least, y.most))
 
   names_keep : (a b : ℕ) → Within ss a → Within ss b → a ≤ b → name_of ss a ≤ name_of ss b
   names_keep a b x y l =

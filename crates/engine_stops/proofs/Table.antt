@@ -18,7 +18,7 @@ use Rattle.runs.proofs.Accepted.{GoodFile, file_good, GoodWant}
 use Rattle.runs.proofs.Sound.{Sound}
 use Rattle.runs.proofs.Joined.{reads_of}
 use Rattle.runs.proofs.Judged.{GoodWants, GoodHead, GoodRun, accepted_run}
-use Rattle.runs.proofs.Stops.{run_sound, stops-few, stops-reads}
+use Rattle.runs.proofs.Stops.{run_sound, stops_few, stops_reads}
 use Rattle.runs.proofs.Alone.{alone_stops, alone_accepted, plain_length, plain_at}
 use Rattle.engine_stops.specs.Joining.{length_of}
 use Rattle.engine_stops.specs.Private.{count_up, table_of, joined_table, renumbered}
@@ -150,7 +150,7 @@ module _ (r : Run) (accepts : refuses (judge_of r) ≡ false) where
   ok = run_sound r good
 
   wants_good : GoodWants (length (map (λ s. s.start) (stops_of r))) (count_up 1 (length (stops_of r))) (map (λ s. s.count) (stops_of r))
-  wants_good = table_wants (stops_of r) r.head ok (omega (arith, stops-few r good, good.wants.few)) (omega (arith, stops-reads r good, good.wants.reads))
+  wants_good = table_wants (stops_of r) r.head ok (omega (arith, stops_few r good, good.wants.few)) (omega (arith, stops_reads r good, good.wants.reads))
 
   pub joined_stops : stops_of (joined_table r) ≡ renumbered 1 (stops_of r)
   joined_stops =
@@ -160,14 +160,14 @@ module _ (r : Run) (accepts : refuses (judge_of r) ≡ false) where
   pub joined_accepted : refuses (judge_of (joined_table r)) ≡ false
   joined_accepted =
       alone_accepted (map (λ s. s.start) (stops_of r)) (map length_of (stops_of r)) (count_up 1 (length (stops_of r))) (map (λ s. s.count) (stops_of r)) r.head r.turn
-      (omega (arith, length-map (stops_of r) (λ s. s.start), stops-few r good, good.wants.few))
+      (omega (arith, length-map (stops_of r) (λ s. s.start), stops_few r good, good.wants.few))
       (table_sound (stops_of r) r.head ok good.start.near)
       wants_good
       (record { cheap = good.start.cheap; near = good.start.near; past = rw (table_stops (stops_of r) r.head ok, renumbered_right 1 (stops_of r)) good.start.past })
 
   -- As many reads as the run has.
   pub joined_reads : total (joined_table r).counts ≡ total r.counts
-  joined_reads = total_reads (stops_of r) ∙ stops-reads r good
+  joined_reads = total_reads (stops_of r) ∙ stops_reads r good
 
   pub joined_wants : length (joined_table r).numbers ≡ length (stops_of r)
   joined_wants = count_length 1 (length (stops_of r))

@@ -14,7 +14,7 @@ use Rattle.least.proofs.Value.{value_none}
 use Rattle.least.specs.Recurrence.{left_at, right_at, count_at}
 use Rattle.engine_table.specs.Private.{Judged, Written, RowTask, ColumnTask, DoneUpTo, Filled, CellsHold, Columns, Done, Beyond, row_at, table_size, reads_in, reads_first, worth}
 use Rattle.engine_table.proofs.Sizes.{reads_none, reads_more}
-use Rattle.engine_table.proofs.Facts.{reads_at, reads-up-to}
+use Rattle.engine_table.proofs.Facts.{reads_at, reads_up_to_lem}
 use Rattle.engine_table.proofs.Cells.{row_inside, row_kept, holds_kept, beyond_kept, beyond_on, beyond_none}
 
 module _ (starts lengths numbers counts : List ℕ) (turn reads : ℕ) (j : Judged starts lengths numbers counts turn reads) where
@@ -84,8 +84,8 @@ module _ (starts lengths numbers counts : List ℕ) (turn reads b n : ℕ) where
       }
 
   module _ (xs ys : List ℕ) (a : ℕ) (l : ColumnLoop xs ys a) where
-    pub row_task_here : a ≤ b → RowTask starts lengths numbers counts turn reads ys a b n
-    row_task_here h = record { judged = l.judged; window = h; inside = l.inside; big = l.big; columns = l.columns; span = omega (arith, l.span) }
+    pub row_task_lem : a ≤ b → RowTask starts lengths numbers counts turn reads ys a b n
+    row_task_lem h = record { judged = l.judged; window = h; inside = l.inside; big = l.big; columns = l.columns; span = omega (arith, l.span) }
 
     span_reads : (s : ℕ) → s + reads_first (lone_stops starts lengths numbers counts) (suc (b + 1)) ≤ reads → s < n
     span_reads s h =
@@ -181,10 +181,10 @@ module _ (starts lengths numbers counts : List ℕ) (turn reads : ℕ) where
     more_left h = let e : b + 1 + 1 ≡ b + 2 = omega arith in omega (arith, l.reads-left, reads_more counts (b + 1), ap (reads_in counts) e)
 
     pub left_within : b + 1 < length numbers → left + get_or counts (b + 1) 0 ≤ reads
-    left_within h = omega (arith, more_left h, reads-up-to starts lengths numbers counts turn reads l.judged (b + 2) (omega arith))
+    left_within h = omega (arith, more_left h, reads_up_to_lem starts lengths numbers counts turn reads l.judged (b + 2) (omega arith))
 
-    pub column_task_here : (n : ℕ) → b + 1 < length numbers → n ≡ reads - (left + get_or counts (b + 1) 0) + 1 → ColumnTask starts lengths numbers counts turn reads ys b n
-    column_task_here n h e =
+    pub column_task_lem : (n : ℕ) → b + 1 < length numbers → n ≡ reads - (left + get_or counts (b + 1) 0) + 1 → ColumnTask starts lengths numbers counts turn reads ys b n
+    column_task_lem n h e =
         record {
           judged = l.judged;
           inside = h;

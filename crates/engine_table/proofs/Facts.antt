@@ -15,14 +15,14 @@ use Rattle.runs.specs.Alone.{alone_of, lone_stop, lone_stops}
 use Rattle.runs.specs.AnyHead.{lifted}
 use Rattle.runs.specs.Rows.{stop_at}
 use Rattle.runs.proofs.Accepted.{GoodFile, GoodWant}
-use Rattle.runs.proofs.Judged.{GoodRun, numbers-rise}
+use Rattle.runs.proofs.Judged.{GoodRun, numbers_rise}
 use Rattle.runs.proofs.AnyHead.{accepted_any, smaller_rises}
 use Rattle.runs.proofs.Table.{table_file, end_before_start}
 use Rattle.runs.proofs.Alone.{plain_at, plain_length}
 use Rattle.least.proofs.Sums.{W-zero, W-suc}
 use Rattle.least.specs.Recurrence.{file_at, left_at, right_at, count_at}
 use Rattle.engine_table.specs.Private.{Judged, IsStop, TripFits, EarlyFits, RowFits, row_at, start_at, stop_end, reads_in, reads_first}
-use Rattle.engine_table.proofs.Sizes.{row_small, reads_none, reads_more, reads-within, stop_fits, stop_bytes, stop_next_fits, in_both, stop_before, place_fits, place_bytes, skip_place_fits, skip_place_bytes, within_reads}
+use Rattle.engine_table.proofs.Sizes.{row_small, reads_none, reads_more, reads_within, stop_fits, stop_bytes, stop_next_fits, in_both, stop_before, place_fits, place_bytes, skip_place_fits, skip_place_bytes, within_reads}
 
 module _ (starts lengths numbers counts : List ℕ) (turn reads : ℕ) (j : Judged starts lengths numbers counts turn reads) where
   good : GoodRun (lifted (alone_of j.starts j.lengths numbers counts j.head turn))
@@ -43,7 +43,7 @@ module _ (starts lengths numbers counts : List ℕ) (turn reads : ℕ) (j : Judg
       omega (
         arith,
         end_before_start j.starts j.lengths good.files.table (get_or numbers i 0 - 1) (get_or numbers i' 0 - 1)
-            (omega (arith, numbers-rise (length j.starts) numbers counts good.wants i i' h l, (want i (omega arith)).named))
+            (omega (arith, numbers_rise (length j.starts) numbers counts good.wants i i' h l, (want i (omega arith)).named))
             (inside i' l),
       )
 
@@ -69,20 +69,20 @@ module _ (starts lengths numbers counts : List ℕ) (turn reads : ℕ) (j : Judg
   pub even_counts : length numbers ≡ length counts
   even_counts = good.wants.equal
 
-  pub few_stops_here : length numbers ≤ 64
-  few_stops_here = good.wants.few
+  pub few_stops : length numbers ≤ 64
+  few_stops = good.wants.few
 
-  pub few_reads_here : reads ≤ most_reads
-  few_reads_here = omega (arith, j.run.whole, good.wants.reads)
+  pub few_reads_lem : reads ≤ most_reads
+  few_reads_lem = omega (arith, j.run.whole, good.wants.reads)
 
   pub cheap_turn : turn ≤ highest_turn
   cheap_turn = good.start.cheap
 
-  pub reads_up_to_here : (n : ℕ) → n ≤ length numbers → reads_in counts n ≤ reads
-  reads_up_to_here n l = omega (arith, j.run.whole, reads-within counts n (omega (arith, even_counts)))
+  pub reads_up_to_lem : (n : ℕ) → n ≤ length numbers → reads_in counts n ≤ reads
+  reads_up_to_lem n l = omega (arith, j.run.whole, reads_within counts n (omega (arith, even_counts)))
 
-  pub count_few_here : (i : ℕ) → i < length numbers → get_or counts i 0 ≤ most_reads
-  count_few_here i l = omega (arith, reads_up_to_here (i + 1) (omega arith), reads_more counts i, few_reads_here)
+  pub count_few : (i : ℕ) → i < length numbers → get_or counts i 0 ≤ most_reads
+  count_few i l = omega (arith, reads_up_to_lem (i + 1) (omega arith), reads_more counts i, few_reads_lem)
 
   pub trip_fits : (c b : ℕ) → c ≤ b → b < length numbers → TripFits starts lengths numbers turn c b
   trip_fits c b h l =
@@ -103,27 +103,27 @@ module _ (starts lengths numbers counts : List ℕ) (turn reads : ℕ) (j : Judg
         even = even_counts;
         onward = start_order a b h l;
         near = omega (arith, ends_near b l);
-        few = count_few_here b l;
+        few = count_few b l;
       }
 
   -- The stops' places and counts are those of the rows.
-  pub stop_at_here : (i : ℕ) → i < length numbers → stop_at (lone_stops starts lengths numbers counts) i ≡ lone_stop starts lengths (get_or numbers i 0) (get_or counts i 0)
-  stop_at_here i l = plain_at starts lengths numbers counts (sym even_counts) i l
+  pub stop_at_lem : (i : ℕ) → i < length numbers → stop_at (lone_stops starts lengths numbers counts) i ≡ lone_stop starts lengths (get_or numbers i 0) (get_or counts i 0)
+  stop_at_lem i l = plain_at starts lengths numbers counts (sym even_counts) i l
 
   pub stops_length : length (lone_stops starts lengths numbers counts) ≡ length numbers
   stops_length = plain_length starts lengths numbers counts (sym even_counts)
 
-  pub left_at_here : (i : ℕ) → i < length numbers → left_at (lone_stops starts lengths numbers counts) i ≡ start_at starts numbers i
-  left_at_here i l = ap (λ s. s.start) (stop_at_here i l)
+  pub left_at_lem : (i : ℕ) → i < length numbers → left_at (lone_stops starts lengths numbers counts) i ≡ start_at starts numbers i
+  left_at_lem i l = ap (λ s. s.start) (stop_at_lem i l)
 
-  pub right_at_here : (i : ℕ) → i < length numbers → right_at (lone_stops starts lengths numbers counts) i ≡ stop_end starts lengths numbers i
-  right_at_here i l = ap (λ s. s.end) (stop_at_here i l)
+  pub right_at_lem : (i : ℕ) → i < length numbers → right_at (lone_stops starts lengths numbers counts) i ≡ stop_end starts lengths numbers i
+  right_at_lem i l = ap (λ s. s.end) (stop_at_lem i l)
 
   pub count_at_lem : (i : ℕ) → i < length numbers → count_at (lone_stops starts lengths numbers counts) i ≡ get_or counts i 0
-  count_at_lem i l = ap (λ s. s.count) (stop_at_here i l)
+  count_at_lem i l = ap (λ s. s.count) (stop_at_lem i l)
 
-  pub file_at : (i : ℕ) → i < length numbers → file_at (lone_stops starts lengths numbers counts) i ≡ get_or numbers i 0
-  file_at_here i l = ap (λ s. s.file) (stop_at_here i l)
+  pub file_at_lem : (i : ℕ) → i < length numbers → file_at (lone_stops starts lengths numbers counts) i ≡ get_or numbers i 0
+  file_at_lem i l = ap (λ s. s.file) (stop_at_lem i l)
 
   pub reads_at : (n : ℕ) → n ≤ length numbers → reads_first (lone_stops starts lengths numbers counts) n ≡ reads_in counts n
   reads_at zero l = W-zero (count_at (lone_stops starts lengths numbers counts)) ∙ sym (reads_none counts)
@@ -132,7 +132,7 @@ module _ (starts lengths numbers counts : List ℕ) (turn reads : ℕ) (j : Judg
       omega (arith, W-suc (count_at (lone_stops starts lengths numbers counts)) n, count_at_lem n l, reads_at n (omega arith), more)
 
   pub row_fits : (a b : ℕ) → a < length numbers → b < length numbers → RowFits (length numbers) reads a b
-  row_fits a b h l = record { left = h; right = l; few = few_stops_here; most = few_reads_here }
+  row_fits a b h l = record { left = h; right = l; few = few_stops; most = few_reads_lem }
 
   -- A word of a row has a number that fits.
   pub row_part_small : (a b x y : ℕ) → a < length numbers → b < length numbers → x ≡ row_at (length numbers) reads a b → y ≤ most_reads → x + y ≤ 5000000
@@ -140,13 +140,13 @@ module _ (starts lengths numbers counts : List ℕ) (turn reads : ℕ) (j : Judg
 
   -- A stop's number fits, in bytes too, and its count is there.
   pub number_fits : (i : ℕ) → i < length numbers → Fits w64 i
-  number_fits i l = stop_fits i (length numbers) l few_stops_here
+  number_fits i l = stop_fits i (length numbers) l few_stops
 
   pub number_bytes : (i : ℕ) → i < length numbers → Fits w64 (i * 8)
-  number_bytes i l = stop_bytes i (length numbers) l few_stops_here
+  number_bytes i l = stop_bytes i (length numbers) l few_stops
 
   pub number_next_fits : (i : ℕ) → i < length numbers → Fits w64 (i + 1)
-  number_next_fits i l = stop_next_fits i (length numbers) l few_stops_here
+  number_next_fits i l = stop_next_fits i (length numbers) l few_stops
 
   pub counted : (i : ℕ) → i < length numbers → i < length counts
   counted i l = in_both i (length numbers) (length counts) l even_counts
@@ -158,21 +158,21 @@ module _ (starts lengths numbers counts : List ℕ) (turn reads : ℕ) (j : Judg
   -- The place of its word past the reads of stop b + 1, and past s more.
   module _ (c b x : ℕ) (h : c ≤ b + 1) (l : b + 1 < length numbers) (e : x ≡ row_at (length numbers) reads c b) where
     inner_small : x + get_or counts (b + 1) 0 ≤ 5000000
-    inner_small = row_part_small c b x (get_or counts (b + 1) 0) (lt_of_le_of_lt h l) (stop_before b (length numbers) l) e (count_few_here (b + 1) l)
+    inner_small = row_part_small c b x (get_or counts (b + 1) 0) (lt_of_le_of_lt h l) (stop_before b (length numbers) l) e (count_few (b + 1) l)
 
     pub inner_fits : Fits w64 (x + get_or counts (b + 1) 0)
     inner_fits = place_fits x (get_or counts (b + 1) 0) inner_small
 
     pub inner_skip_fits : (s r : ℕ) → s + r ≤ reads → Fits w64 (x + get_or counts (b + 1) 0 + s)
-    inner_skip_fits s r m = skip_place_fits x (get_or counts (b + 1) 0) s r reads inner_small m few_reads_here
+    inner_skip_fits s r m = skip_place_fits x (get_or counts (b + 1) 0) s r reads inner_small m few_reads_lem
 
     pub inner_skip_bytes : (s r : ℕ) → s + r ≤ reads → Fits w64 ((x + get_or counts (b + 1) 0 + s) * 8)
-    inner_skip_bytes s r m = skip_place_bytes x (get_or counts (b + 1) 0) s r reads inner_small m few_reads_here
+    inner_skip_bytes s r m = skip_place_bytes x (get_or counts (b + 1) 0) s r reads inner_small m few_reads_lem
 
   -- The place of a row's word past s reads.
   module _ (a b x : ℕ) (h : a < length numbers) (l : b < length numbers) (e : x ≡ row_at (length numbers) reads a b) (s r : ℕ) (m : s + r ≤ reads) where
     word_small : x + s ≤ 5000000
-    word_small = row_part_small a b x s h l e (within_reads s r reads m few_reads_here)
+    word_small = row_part_small a b x s h l e (within_reads s r reads m few_reads_lem)
 
     pub word_fits : Fits w64 (x + s)
     word_fits = place_fits x s word_small

@@ -8,7 +8,7 @@ use native.Mathlib.Decide.{dec_lt}
 use native.Mathlib.Nat.{mul-le-mul_left, mul-le-mul_right, add-zero}
 use lib.ListN.{get_or}
 use Rattle.least.specs.Slopes.{Supported}
-use Rattle.least.proofs.Lines.{lower_first, supported_line, supported_sum, supported_from, supported_same, supported-rises, never_above_near, never_above_far}
+use Rattle.least.proofs.Lines.{lower_first, supported_line, supported_sum, supported_from, supported_same, supported_rises, never_above_near, never_above_far}
 use Rattle.engine_table.specs.Private.{Written, Apart, LowerFits, WordFits, Edges, Unlowered, Block, Falling, Laid, choice_sum, lowered}
 use Rattle.engine_table.proofs.Words.{kept_more, word_apart}
 
@@ -69,7 +69,7 @@ module _ (cell inner rest base slope n : ℕ) (xs : List ℕ) (ok : LowerFits ce
     first_row_here = rw (add-zero cell)
 
     pub step_up : get_or xs cell 0 ≤ get_or xs (cell + 1) 0
-    step_up = omega (arith, first_row_here, supported-rises row n ed.row 0 1 (omega arith) two)
+    step_up = omega (arith, first_row_here, supported_rises row n ed.row 0 1 (omega arith) two)
 
     step_is : row 1 ≡ row 0 + step
     step_is = omega (arith, first_row_here, step_up)
@@ -87,7 +87,7 @@ module _ (cell inner rest base slope n : ℕ) (xs : List ℕ) (ok : LowerFits ce
 
       -- The choice's line fits, at the end.
       pub line_fits : new + slope * (n - 1) < 2 ^ 64
-      line_fits = omega (arith, ok.fits (n - 1) (omega arith), new_sum, supported-rises sum n ed.sum 0 (n - 1) (omega arith) (omega arith))
+      line_fits = omega (arith, ok.fits (n - 1) (omega arith), new_sum, supported_rises sum n ed.sum 0 (n - 1) (omega arith) (omega arith))
 
       pub trips_fit : slope * (n - 1) < 2 ^ 64
       trips_fit = omega (arith, line_fits)
@@ -179,8 +179,8 @@ module _ (cell inner rest base slope i m : ℕ) (xs ys : List ℕ) (ok : LowerFi
       }
 
   module _ (r : ℕ) (zs : List ℕ) (la : Laid (cell + i) (inner + i) (rest + i) (base + slope * i) slope m ys zs r) where
-    laid_later : (t : ℕ) → t < r → get_or zs (cell + (i + t)) 0 ≡ lowered cell inner rest base slope xs (i + t)
-    laid_later t l =
+    laid_later_here : (t : ℕ) → t < r → get_or zs (cell + (i + t)) 0 ≡ lowered cell inner rest base slope xs (i + t)
+    laid_later_here t l =
         let e : cell + (i + t) ≡ cell + i + t = omega arith in
         ap (λ p. get_or zs p 0) e ∙ la.written.words t l ∙ rw (later_here t, later_sum t (omega (arith, la.within)))
 
@@ -198,7 +198,7 @@ module _ (cell inner rest base slope i m : ℕ) (xs ys : List ℕ) (ok : LowerFi
               by_cases
               (dec_lt s i)
               (λ h. la.written.kept.below (cell + s) (omega arith) ∙ w.words s h)
-              (λ h. let e : s ≡ i + (s - i) = omega arith in rw e (laid_later (s - i) (omega arith)));
+              (λ h. let e : s ≡ i + (s - i) = omega arith in rw e (laid_later_here (s - i) (omega arith)));
         }
 
 -- The loop: i of n words are laid.

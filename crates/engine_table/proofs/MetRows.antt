@@ -68,13 +68,13 @@ module _ (starts lengths numbers counts : List ℕ) (head turn reads : ℕ) (r :
   good_run = (accepted_any (alone_of starts lengths numbers counts head turn) r.accepts).run
 
   pub table_even : length starts ≡ length lengths
-  table_even = good_run_here.files.table.equal
+  table_even = good_run.files.table.equal
 
   pub table_ends : (i : ℕ) → i < length starts → end_at starts lengths i ≤ last_place
-  table_ends i l = (table_file starts lengths good_run_here.files.table i l).ends
+  table_ends i l = (table_file starts lengths good_run.files.table i l).ends
 
   pub counts_even : length counts ≡ length numbers
-  counts_even = sym good_run_here.wants.equal
+  counts_even = sym good_run.wants.equal
 
   module _ (lefts spans : List ℕ) (l : FirstHold (length starts) (met_start head starts) lefts) (s : FirstHold (length starts) (met_length head starts lengths) spans) where
     pub judged_met : Judged (take (length starts) lefts) (take (length starts) spans) numbers counts turn reads
@@ -83,4 +83,4 @@ module _ (starts lengths numbers counts : List ℕ) (head turn reads : ℕ) (r :
     pub stops_met : lone_stops (take (length starts) lefts) (take (length starts) spans) numbers counts ≡ pulled head (lone_stops starts lengths numbers counts)
     stops_met =
         met_stops head starts lengths (take (length starts) lefts) (take (length starts) spans) (met_rows head starts lengths lefts spans l s) numbers counts
-        (λ i h. omega (arith, good_run_here.wants.each i h))
+        (λ i h. omega (arith, good_run.wants.each i h))

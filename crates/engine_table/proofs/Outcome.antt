@@ -22,8 +22,8 @@ use Rattle.least.proofs.LeastList.{least_list_none, least_list_some}
 use Rattle.least.proofs.LeastAny.{least_any}
 use Rattle.engine_table.specs.Listing.{IsListed, list_rows, room_size}
 use Rattle.engine_table.specs.Private.{AnyRun, Judged, Written, Beyond, ListWritten, list_at, table_size}
-use Rattle.engine_table.proofs.Facts.{stops-length}
-use Rattle.engine_table.proofs.MetRows.{counts-even}
+use Rattle.engine_table.proofs.Facts.{stops_length}
+use Rattle.engine_table.proofs.MetRows.{counts_even}
 use Rattle.least.specs.Recurrence.{least_list}
 
 -- Nothing is written.
@@ -44,12 +44,12 @@ pub least_of_none : (starts lengths numbers counts : List ℕ) (head turn reads 
     → length numbers ≡ 0 → least_list turn (pulled head (lone_stops starts lengths numbers counts)) ≡ []
 least_of_none starts lengths numbers counts head turn reads r e =
     no_stops turn (pulled head (lone_stops starts lengths numbers counts))
-    (pulled_length head (lone_stops starts lengths numbers counts) ∙ plain_length starts lengths numbers counts (counts-even starts lengths numbers counts head turn reads r) ∙ e)
+    (pulled_length head (lone_stops starts lengths numbers counts) ∙ plain_length starts lengths numbers counts (counts_even starts lengths numbers counts head turn reads r) ∙ e)
 
 module _ (starts lengths numbers counts : List ℕ) (turn reads : ℕ) (j : Judged starts lengths numbers counts turn reads) where
   pub least_of_some : (length numbers ≡ 0 → ⊥) → list_at (lone_stops starts lengths numbers counts) turn 0 (length numbers - 1) 0 ≡ least_list turn (lone_stops starts lengths numbers counts)
   least_of_some n =
-      sym (least_list_some turn (length numbers - 1) (lone_stops starts lengths numbers counts) (omega (arith, stops-length starts lengths numbers counts turn reads j)))
+      sym (least_list_some turn (length numbers - 1) (lone_stops starts lengths numbers counts) (omega (arith, stops_length starts lengths numbers counts turn reads j)))
 
 -- A list in two rows has its starts in one and its ends in the other.
 starts_in_row : (xs ys : List ℕ) → length xs ≡ length ys → map (λ d. d.from) (list_of xs ys) ≡ xs

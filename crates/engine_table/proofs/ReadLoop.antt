@@ -10,12 +10,12 @@ use Rattle.runs.specs.Run.{Stop}
 use Rattle.runs.specs.Alone.{lone_stops}
 use Rattle.runs.specs.Lists.{Detour, list_of}
 use Rattle.runs.proofs.Entries.{length_list}
-use Rattle.least.proofs.Value.{choice-first}
+use Rattle.least.proofs.Value.{choice_first}
 use Rattle.least.specs.Recurrence.{file_at, left_at, right_at, count_at}
 use Rattle.engine_table.specs.Private.{Judged, Filled, Asked, ListWritten, reads_in, chosen, list_at}
 use Rattle.engine_table.proofs.Sizes.{reads_more, reads_rise}
-use Rattle.engine_table.proofs.Facts.{count_at_lem, file_at, reads-up-to, few_stops, few-reads}
-use Rattle.engine_table.proofs.Stack.{list_set, list-none, list-skip, list-detour, list_few, owed, owed-kept, owed_none, owed-top, Stacked, stacked-kept, depth_below, TopFrame, top_frame}
+use Rattle.engine_table.proofs.Facts.{count_at_lem, file_at_lem, reads_up_to_lem, few_stops, few_reads_lem}
+use Rattle.engine_table.proofs.Stack.{list_set, list_none, list_skip, list_detour, list_few, owed, owed_kept, owed_none, owed_top, Stacked, stacked_kept, depth_below, TopFrame, top_frame}
 
 -- Joining the parts of the list.
 join_pushed : (w inner rest o : List Detour) (d : Detour) → w ++ ((inner ++ d ∷ rest) ++ o) ≡ w ++ (inner ++ (d ∷ (rest ++ o)))
@@ -64,7 +64,7 @@ module _ (starts lengths numbers counts : List ℕ) (turn reads : ℕ) where
         left = omega arith;
         left_in = some;
         inside = omega arith;
-        span = rw whole (omega (arith, reads-up-to starts lengths numbers counts turn reads j (length numbers) (omega arith)));
+        span = rw whole (omega (arith, reads_up_to_lem starts lengths numbers counts turn reads j (length numbers) (omega arith)));
         stacked = tt;
         entries = append-nil (list_at stops turn 0 (length numbers - 1) 0);
         same_froms = refl;
@@ -96,7 +96,7 @@ module _ (starts lengths numbers counts : List ℕ) (turn reads : ℕ) where
     next_span h = let e : b - 1 + 1 ≡ b = omega arith in rw e (omega (arith, r.span, reads_more counts b))
 
     pub skips_small : a < b → s + get_or counts b 0 ≤ 1024
-    skips_small h = omega (arith, next_span h, few-reads starts lengths numbers counts turn reads f.judged)
+    skips_small h = omega (arith, next_span h, few_reads_lem starts lengths numbers counts turn reads f.judged)
 
     count_here : count_at stops b ≡ get_or counts b 0
     count_here = count_at_lem starts lengths numbers counts turn reads f.judged b r.inside
@@ -104,7 +104,7 @@ module _ (starts lengths numbers counts : List ℕ) (turn reads : ℕ) where
     skipped : a < b → chosen stops turn a (b - 1) s ≡ 0 → list_at stops turn a b s ≡ list_at stops turn a (b - 1) (s + get_or counts b 0)
     skipped h e =
         let q : suc (b - 1) ≡ b = omega arith in
-        rw (q, count_here) at (list-skip stops turn a (b - 1) s (omega arith) e)
+        rw (q, count_here) at (list_skip stops turn a (b - 1) s (omega arith) e)
 
     pub read_skip : a < b → (c : ℕ) → c ≡ chosen (lone_stops starts lengths numbers counts) turn a (b - 1) s → c ≡ 0 → ReadLoop froms₀ tos₀ froms tos edges ends skips depth n a (b - 1) (s + get_or counts b 0)
     read_skip h c e z =
@@ -132,11 +132,11 @@ module _ (starts lengths numbers counts : List ℕ) (turn reads : ℕ) where
     pushed h c e n =
         let q : suc (b - 1) ≡ b = omega arith in
         let p : suc (c - 1) ≡ c = omega arith in
-        rw (q, p, count_here) at (list-detour stops turn a (b - 1) s (c - 1) (omega arith) (sym e ∙ sym p))
+        rw (q, p, count_here) at (list_detour stops turn a (b - 1) s (c - 1) (omega arith) (sym e ∙ sym p))
 
     chosen_in : a < b → (c : ℕ) → c ≡ chosen stops turn a (b - 1) s → (c ≡ 0 → ⊥) → (a < c) × (c ≤ b)
     chosen_in h c e n =
-        let w = (choice-first (left_at stops) (right_at stops) (count_at stops) turn a (b - 1) s (omega arith)).within (omega arith) in
+        let w = (choice_first (left_at stops) (right_at stops) (count_at stops) turn a (b - 1) s (omega arith)).within (omega arith) in
         (omega arith, omega arith)
 
     -- The new frame is the top one.
@@ -146,13 +146,13 @@ module _ (starts lengths numbers counts : List ℕ) (turn reads : ℕ) where
     unfolding owed
     owed_pushed c h =
         rw
-        (get_or-set_same edges depth a 0 (omega (arith, r.rows.0)), get_or-set_same ends depth b 0 (omega (arith, r.rows.1)), get_or-set_same skips depth s 0 (omega (arith, r.rows.2)), owed-kept stops turn edges ends skips depth depth a b s a (omega arith))
+        (get_or-set_same edges depth a 0 (omega (arith, r.rows.0)), get_or-set_same ends depth b 0 (omega (arith, r.rows.1)), get_or-set_same skips depth s 0 (omega (arith, r.rows.2)), owed_kept stops turn edges ends skips depth depth a b s a (omega arith))
 
     stacked_pushed : (c : ℕ) → depth < 64 → a < c → c ≤ b → Stacked counts k reads (set edges depth a) (set ends depth b) (set skips depth s) (suc depth) c
     stacked_pushed c h l m =
         rw
         (get_or-set_same edges depth a 0 (omega (arith, r.rows.0)), get_or-set_same ends depth b 0 (omega (arith, r.rows.1)), get_or-set_same skips depth s 0 (omega (arith, r.rows.2)))
-        (l, r.inside, waiting, stacked-kept counts k reads edges ends skips depth depth a b s a (omega arith) r.stacked)
+        (l, r.inside, waiting, stacked_kept counts k reads edges ends skips depth depth a b s a (omega arith) r.stacked)
       where
         waiting : s + reads_in counts c ≤ reads
         waiting = omega (arith, r.span, reads_rise counts c (b + 1) (omega arith))
@@ -185,7 +185,7 @@ module _ (starts lengths numbers counts : List ℕ) (turn reads : ℕ) where
 
     -- A window is done.
     done : b ≤ a → list_of (take n froms) (take n tos) ++ ([] ++ owed stops turn edges ends skips depth a) ≡ list_at stops turn 0 (k - 1) 0
-    done h = rw (list-none stops turn a b s h) at r.entries
+    done h = rw (list_none stops turn a b s h) at r.entries
 
     written : length (list_of (take n froms) (take n tos)) ≡ n
     written =
@@ -202,7 +202,7 @@ module _ (starts lengths numbers counts : List ℕ) (turn reads : ℕ) where
 
       popped : list_of (take n froms) (take n tos) ++ ([] ++ (record { from = file_at stops a; to = file_at stops (get_or ends (depth - 1) 0) } ∷ (list_at stops turn (get_or edges (depth - 1) 0) (a - 1) (get_or skips (depth - 1) 0) ++ owed stops turn edges ends skips (depth - 1) (get_or edges (depth - 1) 0))))
           ≡ list_at stops turn 0 (k - 1) 0
-      popped = rw (owed-top stops turn edges ends skips depth a some) at (done h)
+      popped = rw (owed_top stops turn edges ends skips depth a some) at (done h)
 
       entry_room : n + 1 < length numbers
       entry_room =
@@ -231,7 +231,7 @@ module _ (starts lengths numbers counts : List ℕ) (turn reads : ℕ) where
             stacked = t.under;
             entries =
                 rw
-                (list_set froms tos n (get_or numbers a 0) (get_or numbers (get_or ends (depth - 1) 0) 0) from_room to_room, ← file_at starts lengths numbers counts turn reads f.judged a r.left_in, ← file_at starts lengths numbers counts turn reads f.judged (get_or ends (depth - 1) 0) t.end)
+                (list_set froms tos n (get_or numbers a 0) (get_or numbers (get_or ends (depth - 1) 0) 0) from_room to_room, ← file_at_lem starts lengths numbers counts turn reads f.judged a r.left_in, ← file_at_lem starts lengths numbers counts turn reads f.judged (get_or ends (depth - 1) 0) t.end)
                 (sym (join_popped (list_of (take n froms) (take n tos)) (list_at stops turn (get_or edges (depth - 1) 0) (a - 1) (get_or skips (depth - 1) 0) ++ owed stops turn edges ends skips (depth - 1) (get_or edges (depth - 1) 0)) (record { from = file_at stops a; to = file_at stops (get_or ends (depth - 1) 0) }))
                 ∙ popped);
             same_froms = length-set froms n (get_or numbers a 0) ∙ r.same-froms;

@@ -79,8 +79,8 @@ module _ (r : Run) (rows : ListRows) where
   in_two = two_first (refuse_if (ltb most_wants (length r.starts)) FileRows) (judge_any_of r) (refuse_if (short_list_rows (length r.numbers) rows) ShortRow ∷ refuse_if (ltb (length rows.room) (room_size r)) ShortRoom ∷ [])
 
   module _ (v : Verdict) (f : Bool) (v-is : v ≡ judge_table_of r) (f-is : f ≡ is_refusal v.refusal) where
-    pub run_refused_here : f ≡ true → Lists r rows (record { verdict = v; detours = 0 }) rows
-    run_refused_here e = refused_so_here v (v-is ∙ first_refuses (judge_table_of r) after_run (test_says v-is f-is e) ∙ sym in_two) (sym f-is ∙ e)
+    pub run_refused : f ≡ true → Lists r rows (record { verdict = v; detours = 0 }) rows
+    run_refused e = refused_so_here v (v-is ∙ first_refuses (judge_table_of r) after_run (test_says v-is f-is e) ∙ sym in_two) (sym f-is ∙ e)
 
     pub run_accepted : f ≡ false → TablePasses r
     run_accepted e = table_passes r (test_says v-is f-is e)
@@ -93,13 +93,13 @@ module _ (r : Run) (rows : ListRows) where
       unfolding after_run list_rows_verdict
       rows_decide = rw (u-is, reads-is) (sym (passes_run passed))
 
-      pub rows_refused_here : g ≡ true → Lists r rows (record { verdict = u; detours = 0 }) rows
-      rows_refused_here e = refused_so_here u rows_decide (sym g-is ∙ e)
+      pub rows_refused_lem : g ≡ true → Lists r rows (record { verdict = u; detours = 0 }) rows
+      rows_refused_lem e = refused_so_here u rows_decide (sym g-is ∙ e)
 
       -- Where the rows pass, the verdict is acceptance.
-      pub rows_accepted_here : g ≡ false → u ≡ accepted
+      pub rows_accepted : g ≡ false → u ≡ accepted
       unfolding list_rows_verdict
-      rows_accepted_here e =
+      rows_accepted e =
           u-is
           ∙ none_refuses (refuse_if (short_list_rows (length r.numbers) rows) ShortRow ∷ refuse_if (ltb (length rows.room) (table_size (length r.numbers) reads)) ShortRoom ∷ []) (rw (← u-is, ← g-is) e)
 

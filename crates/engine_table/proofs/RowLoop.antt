@@ -9,18 +9,18 @@ use lib.ListN.{length, get_or}
 use Rattle.runs.specs.Run.{Stop, last_place, highest_turn, most_reads}
 use Rattle.runs.specs.Alone.{lone_stops}
 use Rattle.least.proofs.Scan.{lowest_one_more, lowest_end}
-use Rattle.least.proofs.Value.{value-step}
+use Rattle.least.proofs.Value.{value_step}
 use Rattle.least.proofs.Lines.{lower_below_first, supported_lower, supported_same}
-use Rattle.least.proofs.Edges.{candidate-supported}
+use Rattle.least.proofs.Edges.{candidate_supported}
 use Rattle.least.specs.Slopes.{Supported}
 use Rattle.least.specs.Recurrence.{lower, lowest, left_at, right_at, count_at}
 use Rattle.engine_table.specs.Private.{Kept, Written, SkipFits, RowTask, DetourFrom, SoFar, row_at, reads_in, start_at, worth, choice_worth}
 use Rattle.engine_table.proofs.Sizes.{reads_more}
 use Rattle.engine_table.proofs.Words.{kept_none, kept_more, kept_on}
-use Rattle.engine_table.proofs.Facts.{cheap-turn}
+use Rattle.engine_table.proofs.Facts.{cheap_turn}
 use Rattle.engine_table.proofs.Cells.{holds_kept}
-use Rattle.engine_table.proofs.Choices.{candidate-skip}
-use Rattle.engine_table.proofs.Steps.{inner-word, count-span, room_for, earlier-apart, skipped, early-is, choice-small}
+use Rattle.engine_table.proofs.Choices.{candidate_skip}
+use Rattle.engine_table.proofs.Steps.{inner_word, count_span, room_for, earlier_apart, skipped, early_is, choice_small}
 
 module _ (starts lengths numbers counts : List ℕ) (turn reads : ℕ) (a b n : ℕ) where
   abbrev k : ℕ
@@ -58,7 +58,7 @@ module _ (starts lengths numbers counts : List ℕ) (turn reads : ℕ) (a b n : 
     pub words : (s : ℕ) → s < n → lowest (choice_worth (lone_stops starts lengths numbers counts) turn a b s) a c (get_or ys (row_at (length numbers) reads a (b + 1) + s) 0) ≡ worth (lone_stops starts lengths numbers counts) turn a (suc b) s
 
   choice_edge : (c : ℕ) → c ≤ b + 1 → Supported (λ s. choice_worth stops turn a b s c) n
-  choice_edge c h = candidate-supported (left_at stops) (right_at stops) (count_at stops) turn a b c n (omega arith)
+  choice_edge c h = candidate_supported (left_at stops) (right_at stops) (count_at stops) turn a b c n (omega arith)
 
   -- The row with one choice more.
   so_far_lowered : (ys zs : List ℕ) (c : ℕ) → c ≤ b + 1 → SoFar cell n ys → ((s : ℕ) → s < n → get_or zs (cell + s) 0 ≡ lower (get_or ys (cell + s) 0) (choice_worth stops turn a b s c)) → SoFar cell n zs
@@ -104,19 +104,19 @@ module _ (starts lengths numbers counts : List ℕ) (turn reads : ℕ) (a b n : 
     pub skip_word : (s : ℕ) → s < n → more + get_or room (from + get_or counts (b + 1) 0 + s) 0 ≡ choice_worth stops turn a b s 0
     skip_word s l =
         rw
-        (from_is, inner-word starts lengths numbers counts turn reads room a b n t a s (omega (arith, t.window)) l, more-is, ← early-is starts lengths numbers counts turn reads t.judged b t.inside a (omega (arith, t.window)))
-        (sym (candidate-skip (left_at stops) (right_at stops) (count_at stops) turn (worth stops turn) a b s))
+        (from_is, inner_word starts lengths numbers counts turn reads room a b n t a s (omega (arith, t.window)) l, more-is, ← early_is starts lengths numbers counts turn reads t.judged b t.inside a (omega (arith, t.window)))
+        (sym (candidate_skip (left_at stops) (right_at stops) (count_at stops) turn (worth stops turn) a b s))
 
     skip_small : (s : ℕ) → s < n → choice_worth stops turn a b s 0 ≤ 2 * (highest_turn + 2 * last_place) * most_reads
     skip_small s l =
-        omega (arith, choice-small starts lengths numbers counts turn reads t.judged b t.inside a s 0 (omega arith) (skipped starts lengths numbers counts turn reads room a b n t s l), cheap-turn starts lengths numbers counts turn reads t.judged)
+        omega (arith, choice_small starts lengths numbers counts turn reads t.judged b t.inside a s 0 (omega arith) (skipped starts lengths numbers counts turn reads room a b n t s l), cheap_turn starts lengths numbers counts turn reads t.judged)
 
     pub skip_fits : SkipFits row (from + get_or counts (b + 1) 0) more n room
     skip_fits =
         record {
-          cell_in = omega (arith, row_is, room_for starts lengths numbers counts turn reads room a b n t a (b + 1) 0 (omega (arith, t.window, t.inside)) t.inside (omega (arith, count-span starts lengths numbers counts turn reads room a b n t)));
-          from_in = rw from_is (room_for starts lengths numbers counts turn reads room a b n t a b (get_or counts (b + 1) 0) (omega (arith, t.window, t.inside)) (omega (arith, t.inside)) (count-span starts lengths numbers counts turn reads room a b n t));
-          apart = rw (from_is, row_is) (earlier-apart starts lengths numbers counts turn reads room a b n t a b (get_or counts (b + 1) 0) (le_refl b) (count-span starts lengths numbers counts turn reads room a b n t));
+          cell_in = omega (arith, row_is, room_for starts lengths numbers counts turn reads room a b n t a (b + 1) 0 (omega (arith, t.window, t.inside)) t.inside (omega (arith, count_span starts lengths numbers counts turn reads room a b n t)));
+          from_in = rw from_is (room_for starts lengths numbers counts turn reads room a b n t a b (get_or counts (b + 1) 0) (omega (arith, t.window, t.inside)) (omega (arith, t.inside)) (count_span starts lengths numbers counts turn reads room a b n t));
+          apart = rw (from_is, row_is) (earlier_apart starts lengths numbers counts turn reads room a b n t a b (get_or counts (b + 1) 0) (le_refl b) (count_span starts lengths numbers counts turn reads room a b n t));
           fits = λ s l. omega (arith, skip_word s l, skip_small s l);
         }
 
@@ -140,7 +140,7 @@ module _ (starts lengths numbers counts : List ℕ) (turn reads : ℕ) (a b n : 
           words =
               λ s l.
               rw (z.words s l, skip_word s l, add-one b)
-              (sym (value-step (left_at stops) (right_at stops) (count_at stops) turn a b s t.window));
+              (sym (value_step (left_at stops) (right_at stops) (count_at stops) turn a b s t.window));
         }
 
   pub row_filled : (room xs ys : List ℕ) (row : ℕ) (f : ℕ → ℕ) (c w : ℕ) → row ≡ row_at (length numbers) reads a (b + 1) → Written row n f room xs → RowLoop xs ys c w → c ≤ a

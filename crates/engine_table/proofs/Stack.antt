@@ -9,7 +9,7 @@ use lib.Seq.{get_or-set_other, take-suc-set, length-take-le}
 use Rattle.runs.specs.Run.{Stop}
 use Rattle.runs.specs.Lists.{Detour, list_of}
 use Rattle.least.proofs.Plan.{listed_few}
-use Rattle.least.proofs.Best.{best_none, best-skip, best-detour, best-over}
+use Rattle.least.proofs.Best.{best_none, best_skip, best_detour, best_over}
 use Rattle.least.specs.Recurrence.{plan_detours, best, file_at, left_at, right_at, count_at}
 use Rattle.engine_table.specs.Private.{reads_in, chosen, list_at}
 
@@ -35,15 +35,15 @@ module _ (stops : List Stop) (turn : ℕ) where
 
   pub list_skip : (a b s : ℕ) → a ≤ b → chosen stops turn a b s ≡ 0 → list_at stops turn a (suc b) s ≡ list_at stops turn a b (s + count_at stops (suc b))
   unfolding plan_detours
-  list_skip a b s h e = rw (best-skip (left_at stops) (right_at stops) (count_at stops) turn a b s h e)
+  list_skip a b s h e = rw (best_skip (left_at stops) (right_at stops) (count_at stops) turn a b s h e)
 
   pub list_detour : (a b s d : ℕ) → a ≤ b → chosen stops turn a b s ≡ suc d
       → list_at stops turn a (suc b) s ≡ list_at stops turn (suc d) b (s + count_at stops (suc b)) ++ record { from = file_at stops (suc d); to = file_at stops (suc b) } ∷ list_at stops turn a d s
   unfolding plan_detours
-  list_detour a b s d h e = rw (best-detour (left_at stops) (right_at stops) (count_at stops) turn a b s d h e)
+  list_detour a b s d h e = rw (best_detour (left_at stops) (right_at stops) (count_at stops) turn a b s d h e)
 
-  pub list_few_here : (a b s : ℕ) → length (list_at stops turn a b s) ≤ b - a
-  list_few_here a b s = listed_few (file_at stops) (best (left_at stops) (right_at stops) (count_at stops) turn a b s) a b (best-over (left_at stops) (right_at stops) (count_at stops) turn a b s)
+  pub list_few : (a b s : ℕ) → length (list_at stops turn a b s) ≤ b - a
+  list_few a b s = listed_few (file_at stops) (best (left_at stops) (right_at stops) (count_at stops) turn a b s) a b (best_over (left_at stops) (right_at stops) (count_at stops) turn a b s)
 
   -- What the waiting windows owe: for each its pending detour, from where the window above begins, and then its own list.
   unfoldable pub owed : List ℕ → List ℕ → List ℕ → ℕ → ℕ → List Detour

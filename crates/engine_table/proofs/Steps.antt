@@ -12,14 +12,14 @@ use Rattle.runs.specs.Run.{Stop, last_place, highest_turn, most_reads}
 use Rattle.runs.specs.Alone.{lone_stops}
 use Rattle.least.specs.Recurrence.{trip, early, W, lower, left_at, right_at, count_at}
 use Rattle.least.proofs.Sums.{W-suc, W-rises}
-use Rattle.least.proofs.Bounds.{candidate-bound}
+use Rattle.least.proofs.Bounds.{candidate_bound}
 use Rattle.least.proofs.Lines.{supported_sum, supported_same}
-use Rattle.least.proofs.Edges.{value-supported, value-supported-later}
+use Rattle.least.proofs.Edges.{value_supported, value_supported_later}
 use Rattle.engine_table.specs.Private.{Judged, Written, Apart, LowerFits, Edges, SoFar, lowered, RowTask, DetourFrom, row_at, reads_in, reads_first, start_at, stop_end, worth, choice_worth}
 use Rattle.engine_table.proofs.Words.{written_same}
-use Rattle.engine_table.proofs.Facts.{left-at, right-at, count_at_lem, reads_at, few-reads, cheap-turn, ends-near, reads-up-to, count_few}
+use Rattle.engine_table.proofs.Facts.{left_at_lem, right_at_lem, count_at_lem, reads_at, few_reads_lem, cheap_turn, ends_near, reads_up_to_lem, count_few}
 use Rattle.engine_table.proofs.Cells.{row_inside, rows_apart}
-use Rattle.engine_table.proofs.Choices.{candidate-detour}
+use Rattle.engine_table.proofs.Choices.{candidate_detour}
 
 -- A detour's price, the reads it delays and what is paid on top fit a word together.
 pub wait_small : (slope w n : ℕ) → slope ≤ 2 * (highest_turn + last_place) → w ≤ most_reads → n ≤ most_reads + 1
@@ -53,20 +53,20 @@ module _ (starts lengths numbers counts : List ℕ) (turn reads : ℕ) (j : Judg
   pub trip_is : (c : ℕ) → c ≤ b + 1 → trip (left_at (lone_stops starts lengths numbers counts)) (right_at (lone_stops starts lengths numbers counts)) turn c (suc b) ≡ 2 * (turn + (stop_end starts lengths numbers (b + 1) - start_at starts numbers c))
   trip_is c h =
       rw
-      (← add-one b, right-at starts lengths numbers counts turn reads j (b + 1) inside, left-at starts lengths numbers counts turn reads j c (omega arith))
+      (← add-one b, right_at_lem starts lengths numbers counts turn reads j (b + 1) inside, left_at_lem starts lengths numbers counts turn reads j c (omega arith))
 
   pub early_is : (c : ℕ) → c ≤ b + 1 → early (left_at (lone_stops starts lengths numbers counts)) (count_at (lone_stops starts lengths numbers counts)) c (suc b) ≡ 2 * (start_at starts numbers (b + 1) - start_at starts numbers c) * get_or counts (b + 1) 0
   early_is c h =
       rw
-      (← add-one b, left-at starts lengths numbers counts turn reads j (b + 1) inside, left-at starts lengths numbers counts turn reads j c (omega arith), count_at_lem starts lengths numbers counts turn reads j (b + 1) inside)
+      (← add-one b, left_at_lem starts lengths numbers counts turn reads j (b + 1) inside, left_at_lem starts lengths numbers counts turn reads j c (omega arith), count_at_lem starts lengths numbers counts turn reads j (b + 1) inside)
 
   -- What a choice comes to is far below a word's limit.
   pub choice_small : (a s c : ℕ) → c ≤ b + 1 → s + reads_in counts (b + 2) ≤ reads → choice_worth (lone_stops starts lengths numbers counts) turn a b s c ≤ 2 * (turn + 2 * last_place) * most_reads
   choice_small a s c h l =
-      candidate-bound (left_at (lone_stops starts lengths numbers counts)) (right_at (lone_stops starts lengths numbers counts)) (count_at (lone_stops starts lengths numbers counts)) turn last_place most_reads a b s c
-      (λ i m. omega (arith, left-at starts lengths numbers counts turn reads j i (omega arith), ends-near starts lengths numbers counts turn reads j i (omega arith)))
-      (rw (← add-one b, right-at starts lengths numbers counts turn reads j (b + 1) inside) (ends-near starts lengths numbers counts turn reads j (b + 1) inside))
-      (omega (arith, reads_next, few-reads starts lengths numbers counts turn reads j))
+      candidate_bound (left_at (lone_stops starts lengths numbers counts)) (right_at (lone_stops starts lengths numbers counts)) (count_at (lone_stops starts lengths numbers counts)) turn last_place most_reads a b s c
+      (λ i m. omega (arith, left_at_lem starts lengths numbers counts turn reads j i (omega arith), ends_near starts lengths numbers counts turn reads j i (omega arith)))
+      (rw (← add-one b, right_at_lem starts lengths numbers counts turn reads j (b + 1) inside) (ends_near starts lengths numbers counts turn reads j (b + 1) inside))
+      (omega (arith, reads_next, few_reads_lem starts lengths numbers counts turn reads j))
       (omega arith)
 
 module _ (starts lengths numbers counts : List ℕ) (turn reads : ℕ) (room : List ℕ) (a b n : ℕ) (t : RowTask starts lengths numbers counts turn reads room a b n) where
@@ -109,30 +109,30 @@ module _ (starts lengths numbers counts : List ℕ) (turn reads : ℕ) (room : L
     waiting = reads_at starts lengths numbers counts turn reads t.judged c (omega (arith, t.inside, d.up_to)) ∙ sym d.left
 
     pub waiting_few : w ≤ most_reads
-    waiting_few = omega (arith, d.left, reads-up-to starts lengths numbers counts turn reads t.judged c (omega (arith, t.inside, d.up_to)), few-reads starts lengths numbers counts turn reads t.judged)
+    waiting_few = omega (arith, d.left, reads_up_to_lem starts lengths numbers counts turn reads t.judged c (omega (arith, t.inside, d.up_to)), few_reads_lem starts lengths numbers counts turn reads t.judged)
 
     module _ (slope : ℕ) (slope-is : slope ≡ 2 * (turn + (stop_end starts lengths numbers (b + 1) - start_at starts numbers c))) where
       pub slope_small : slope ≤ 2 * (highest_turn + last_place)
-      slope_small = omega (arith, slope-is, cheap-turn starts lengths numbers counts turn reads t.judged, ends-near starts lengths numbers counts turn reads t.judged (b + 1) t.inside)
+      slope_small = omega (arith, slope-is, cheap_turn starts lengths numbers counts turn reads t.judged, ends_near starts lengths numbers counts turn reads t.judged (b + 1) t.inside)
 
       pub delay_fits : Fits w64 (slope * w)
       delay_fits = delay_fit slope w slope_small waiting_few
 
       module _ (e : ℕ) (e-is : e ≡ 2 * (start_at starts numbers (b + 1) - start_at starts numbers c) * get_or counts (b + 1) 0) where
-        pub early_small_here : e ≤ 2 * last_place * most_reads
-        early_small_here =
-            let h : 2 * (start_at starts numbers (b + 1) - start_at starts numbers c) ≤ 2 * last_place = omega (arith, ends-near starts lengths numbers counts turn reads t.judged (b + 1) t.inside) in
+        pub early_small : e ≤ 2 * last_place * most_reads
+        early_small =
+            let h : 2 * (start_at starts numbers (b + 1) - start_at starts numbers c) ≤ 2 * last_place = omega (arith, ends_near starts lengths numbers counts turn reads t.judged (b + 1) t.inside) in
             rw e-is (mul-le-mul h (count_few starts lengths numbers counts turn reads t.judged (b + 1) t.inside))
 
         pub base_small : slope * w + e ≤ 2 * (highest_turn + last_place) * most_reads + 2 * last_place * most_reads
-        base_small = omega (arith, mul-le-mul slope_small waiting_few, early_small_here)
+        base_small = omega (arith, mul-le-mul slope_small waiting_few, early_small)
 
         pub base_fits : Fits w64 (slope * w + e)
         base_fits = base_fit (slope * w + e) base_small
 
         choice_parts : (s : ℕ) → choice_worth stops turn a b s c ≡ slope * (w + s) + e + worth stops turn c b (s + count_at stops (suc b)) + worth stops turn a (c - 1) s
         choice_parts s =
-            candidate-detour (left_at stops) (right_at stops) (count_at stops) turn (worth stops turn) a b s c (omega (arith, d.after))
+            candidate_detour (left_at stops) (right_at stops) (count_at stops) turn (worth stops turn) a b s c (omega (arith, d.after))
             ∙ rw (trip_is starts lengths numbers counts turn reads t.judged b t.inside c d.up_to, early_is starts lengths numbers counts turn reads t.judged b t.inside c d.up_to, waiting, slope-is, e-is)
 
         module _ (cell at rest : ℕ) (cell-is : cell ≡ row_at k reads a (b + 1)) (at-is : at ≡ row_at k reads c b) (rest_is : rest ≡ row_at k reads a (c - 1)) where
@@ -150,8 +150,8 @@ module _ (starts lengths numbers counts : List ℕ) (turn reads : ℕ) (room : L
                 rest_in = omega (arith, rest_is, room_for a (c - 1) 0 (omega (arith, t.window, t.inside)) (omega (arith, d.up_to, d.after, t.inside)) (omega (arith, count_span)));
                 inner_apart = rw (at-is, cell-is) (earlier_apart c b (get_or counts (b + 1) 0) (le_refl b) count_span);
                 rest_apart = rw (rest_is, cell-is) (rest_away);
-                wait_fits = omega (arith, wait_small slope w n slope_small waiting_few (omega (arith, t.span, few-reads starts lengths numbers counts turn reads t.judged)), early_small_here);
-                fits = λ s l. omega (arith, detour_word s l, choice_small starts lengths numbers counts turn reads t.judged b t.inside a s c d.up_to (skipped s l), cheap-turn starts lengths numbers counts turn reads t.judged);
+                wait_fits = omega (arith, wait_small slope w n slope_small waiting_few (omega (arith, t.span, few_reads_lem starts lengths numbers counts turn reads t.judged)), early_small);
+                fits = λ s l. omega (arith, detour_word s l, choice_small starts lengths numbers counts turn reads t.judged b t.inside a s c d.up_to (skipped s l), cheap_turn starts lengths numbers counts turn reads t.judged);
               }
             where
               rest_away : Apart (row_at k reads a (c - 1)) (row_at k reads a (b + 1)) n
@@ -165,9 +165,9 @@ module _ (starts lengths numbers counts : List ℕ) (turn reads : ℕ) (room : L
                     supported_same (λ s. worth stops turn c b (s + count_at stops (suc b)) + worth stops turn a (c - 1) s) (λ s. get_or room (at + get_or counts (b + 1) 0 + s) 0 + get_or room (rest + s) 0) n
                     (λ s l. sym (both_words s l))
                     (supported_sum (λ s. worth stops turn c b (s + count_at stops (suc b))) (λ s. worth stops turn a (c - 1) s) n
-                    (value-supported-later (left_at stops) (right_at stops) (count_at stops) turn c b (count_at stops (suc b)) n)
-                    (value-supported (left_at stops) (right_at stops) (count_at stops) turn a (c - 1) n));
-                times_fit = λ s l. rw cell-is (omega (arith, times_small (get_or room (row_at k reads a (b + 1) + s) 0) n (so.small s l) (omega (arith, t.span, few-reads starts lengths numbers counts turn reads t.judged))));
+                    (value_supported_later (left_at stops) (right_at stops) (count_at stops) turn c b (count_at stops (suc b)) n)
+                    (value_supported (left_at stops) (right_at stops) (count_at stops) turn a (c - 1) n));
+                times_fit = λ s l. rw cell-is (omega (arith, times_small (get_or room (row_at k reads a (b + 1) + s) 0) n (so.small s l) (omega (arith, t.span, few_reads_lem starts lengths numbers counts turn reads t.judged))));
               }
             where
               both_words : (s : ℕ) → s < n → get_or room (at + get_or counts (b + 1) 0 + s) 0 + get_or room (rest + s) 0 ≡ worth stops turn c b (s + count_at stops (suc b)) + worth stops turn a (c - 1) s

@@ -33,8 +33,8 @@ module _ (at s : ℕ) (f : ℕ → ℕ) (xs ys : List ℕ) (w : Written at s f x
   last_word : get_or (set ys (at + s) v) (at + s) 0 ≡ f s
   last_word = get_or-set_same ys (at + s) v 0 (omega (arith, w.kept.same)) ∙ e
 
-  pub written_more_here : Written at (s + 1) f xs (set ys (at + s) v)
-  written_more_here =
+  pub written_more : Written at (s + 1) f xs (set ys (at + s) v)
+  written_more =
       record {
         kept =
             record {
@@ -67,7 +67,7 @@ module _ (cell inner rest base slope n : ℕ) (xs : List ℕ) (ok : LowerFits ce
   pub row_lowered : (v : ℕ) → v ≡ lower (get_or ys (cell + s) 0) (wait + get_or ys (inner + s) 0 + get_or ys (rest + s) 0)
       → Written cell (s + 1) (lowered cell inner rest base slope xs) xs (set ys (cell + s) v)
   row_lowered v e =
-      written_more_here cell s (lowered cell inner rest base slope xs) xs ys w (omega (arith, ok.cell_in)) v
+      written_more cell s (lowered cell inner rest base slope xs) xs ys w (omega (arith, ok.cell_in)) v
       (rw (here, sum_here) at e)
 
 module _ (cell from more n : ℕ) (xs : List ℕ) (ok : SkipFits cell from more n xs)
@@ -76,7 +76,7 @@ module _ (cell from more n : ℕ) (xs : List ℕ) (ok : SkipFits cell from more 
   word_from = word_apart from cell n s xs ys ok.apart l w.kept
 
   pub row_skipped : Written cell (s + 1) (λ i. more + get_or xs (from + i) 0) xs (set ys (cell + s) (more + get_or ys (from + s) 0))
-  row_skipped = written_more_here cell s (λ i. more + get_or xs (from + i) 0) xs ys w (omega (arith, ok.cell_in)) (more + get_or ys (from + s) 0) (rw word_from)
+  row_skipped = written_more cell s (λ i. more + get_or xs (from + i) 0) xs ys w (omega (arith, ok.cell_in)) (more + get_or ys (from + s) 0) (rw word_from)
 
 -- The loop's last turn is behind it.
 pub written_all : (at n s : ℕ) (f : ℕ → ℕ) (xs ys : List ℕ) → Written at s f xs ys → s ≡ n → Written at n f xs ys

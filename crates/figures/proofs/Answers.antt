@@ -22,11 +22,11 @@ use Rattle.runs.proofs.Judged.{GoodRun, accepted_run}
 use Rattle.walk.specs.declared.Answer.{Answer}
 use Rattle.walk.specs.Price.{refusal_answer, priced_answer, price_verdict, price_answer}
 use Rattle.walk.specs.Rows.{ReadRows}
-use Rattle.walk.proofs.Walks.{GoodList, accepted_list, list-fits}
+use Rattle.walk.proofs.Walks.{GoodList, accepted_list, list_fits_lem}
 use Rattle.walk.proofs.Laws.{sum_below_lem}
 use Rattle.figures.specs.Figures.{without, figure_of, figures_by, figures_of, figures_verdict, figures_answer, figures_row}
 use Rattle.figures.specs.Private.{Priceable}
-use Rattle.figures.proofs.Without.{without-length, without_list, without_formed}
+use Rattle.figures.proofs.Without.{without_length, without_list, without_formed}
 
 -- A list that two rows of one length hold is accepted where it is well formed, and the other way round.
 pub list_accepted : (stops : List Stop) (froms tos : List ℕ) → length froms ≡ length tos → WellFormed stops (list_of froms tos) → refuses (list_verdict stops froms tos) ≡ false
@@ -49,7 +49,7 @@ module _ (r : Run) (froms tos : List ℕ) (p : Priceable r froms tos) where
   even = list.even
 
   pub few : length froms ≤ 64
-  few = omega (arith, list-fits r good froms tos list, good.wants.few)
+  few = omega (arith, list_fits_lem r good froms tos list, good.wants.few)
 
   -- And so is it without an entry.
   pub priceable_without : (i : ℕ) → i < length froms → Priceable r (without i froms) (without i tos)
@@ -58,7 +58,7 @@ module _ (r : Run) (froms tos : List ℕ) (p : Priceable r froms tos) where
       record {
         run = p.run;
         list =
-            list_accepted (stops_of r) (without i froms) (without i tos) (omega (arith, even, without-length i froms l, without-length i tos (omega (arith, even))))
+            list_accepted (stops_of r) (without i froms) (without i tos) (omega (arith, even, without_length i froms l, without_length i tos (omega (arith, even))))
             (rw (without_list i froms tos even) formed);
       }
 

@@ -26,13 +26,13 @@ use Rattle.walk.specs.declared.Answer.{Answer}
 use Rattle.walk.specs.Price.{refusal_answer, priced_answer}
 use Rattle.walk.specs.AnyHead.{priced_any_answer, price_any_verdict, price_any_answer}
 use Rattle.walk.specs.Rows.{ReadRows}
-use Rattle.walk.proofs.Walks.{GoodList, list-fits}
-use Rattle.walk.proofs.AnyHead.{any-good, priced-same}
-use Rattle.walk.proofs.Laws.{sum-any-below}
+use Rattle.walk.proofs.Walks.{GoodList, list_fits_lem}
+use Rattle.walk.proofs.AnyHead.{any_good, priced_same}
+use Rattle.walk.proofs.Laws.{sum_any_below}
 use Rattle.figures.specs.Figures.{without, figure_of, figures_by, figures_of, figures_verdict, figures_answer, figures_row}
 use Rattle.figures.specs.AnyHead.{figure_any_of, figures_any_of, figures_any_verdict, figures_any_answer, figures_any_row}
 use Rattle.figures.specs.Private.{PriceableAny}
-use Rattle.figures.proofs.Without.{without-length, without_list, without_formed_any}
+use Rattle.figures.proofs.Without.{without_length, without_list, without_formed_any}
 use Rattle.figures.proofs.Answers.{by_length, by_entry, by_same}
 
 -- A list that two rows of one length hold is accepted where it is well formed, and the other way round.
@@ -56,13 +56,13 @@ module _ (r : Run) (froms tos : List ℕ) (p : PriceableAny r froms tos) where
   good = accepted_any r p.run
 
   list : GoodList (stops_of r) froms tos
-  list = any-good r.head (stops_of r) froms tos p.list
+  list = any_good r.head (stops_of r) froms tos p.list
 
   pub even : length froms ≡ length tos
   even = list.even
 
   pub few : length froms ≤ 64
-  few = omega (arith, list-fits (lifted r) good.run froms tos list, good.run.wants.few)
+  few = omega (arith, list_fits_lem (lifted r) good.run froms tos list, good.run.wants.few)
 
   -- The pricer's answer is the price.
   pub priced : (rows : ReadRows) → Long rows → price_any_answer r froms tos rows ≡ priced_any_answer r (list_of froms tos)
@@ -83,7 +83,7 @@ module _ (r : Run) (froms tos : List ℕ) (p : PriceableAny r froms tos) where
       record {
         run = p.run;
         list =
-            list_any_accepted r.head (stops_of r) (without i froms) (without i tos) (omega (arith, even, without-length i froms l, without-length i tos (omega (arith, even))))
+            list_any_accepted r.head (stops_of r) (without i froms) (without i tos) (omega (arith, even, without_length i froms l, without_length i tos (omega (arith, even))))
             (rw (without_list i froms tos even) formed);
       }
 
@@ -95,7 +95,7 @@ sum_is r froms tos p i l lefts rights left right rows long a e =
 
 -- Every sum is far below what a signed word holds.
 pub sum_small : (r : Run) (froms tos : List ℕ) → PriceableAny r froms tos → (priced_any_answer r (list_of froms tos)).sum < 2 ^ 58
-sum_small r froms tos p = sum-any-below r froms tos p.run p.list
+sum_small r froms tos p = sum_any_below r froms tos p.run p.list
 
 pub sum_without_small : (r : Run) (froms tos : List ℕ) (p : PriceableAny r froms tos) (i : ℕ) → i < length froms → (priced_any_answer r (without i (list_of froms tos))).sum < 2 ^ 58
 sum_without_small r froms tos p i l =
@@ -132,9 +132,9 @@ module _ (r : Run) (froms tos : List ℕ) (row : List ℤ) (rows : ReadRows) (lo
   unfolding price_any_answer
   price_refuses v e is = rw (is, e) e
 
-  pub refused_so_here : is_refusal (price_any_answer r froms tos rows).refusal ≡ true → (price_any_answer r froms tos rows ≡ figures_any_answer r froms tos row) × (row ≡ figures_any_row r froms tos row)
+  pub refused_so : is_refusal (price_any_answer r froms tos rows).refusal ≡ true → (price_any_answer r froms tos rows ≡ figures_any_answer r froms tos row) × (row ≡ figures_any_row r froms tos row)
   unfolding priced_any_answer
-  refused_so_here h =
+  refused_so h =
       ⊎_elim
       (λ (e : refuses (judge_any_of r) ≡ true). both_refuse _ e (run_first_here e))
       (λ (e : refuses (judge_any_of r) ≡ false).
@@ -144,8 +144,8 @@ module _ (r : Run) (froms tos : List ℕ) (row : List ℤ) (rows : ReadRows) (lo
       (true_or_false (refuses (list_verdict_any r.head (stops_of r) froms tos))))
       (true_or_false (refuses (judge_any_of r)))
 
-  pub passed_so_here : is_refusal (price_any_answer r froms tos rows).refusal ≡ false → PriceableAny r froms tos
-  passed_so_here h =
+  pub passed_so : is_refusal (price_any_answer r froms tos rows).refusal ≡ false → PriceableAny r froms tos
+  passed_so h =
       ⊎_elim
       (λ (e : refuses (judge_any_of r) ≡ true). absurd (true≢false (sym (price_refuses _ e (run_first_here e).0) ∙ h)))
       (λ (e : refuses (judge_any_of r) ≡ false).
@@ -175,14 +175,14 @@ module _ (r : Run) (froms tos : List ℕ) (row : List ℤ) (p : PriceableAny r f
 
 -- A run that 01 refuses is refused so; of any other the answer and the row are 01's.
 module _ (r : Run) (froms tos : List ℕ) (row : List ℤ) where
-  pub run_refused_here : refuses (judge_of r) ≡ true → (refusal_answer (judge_of r) ≡ figures_answer r froms tos row) × (row ≡ figures_row r froms tos row)
+  pub run_refused : refuses (judge_of r) ≡ true → (refusal_answer (judge_of r) ≡ figures_answer r froms tos row) × (row ≡ figures_row r froms tos row)
   unfolding figures_answer figures_row figures_verdict
-  run_refused_here e = (rw (e, e) refl, rw (e, e) refl)
+  run_refused e = (rw (e, e) refl, rw (e, e) refl)
 
   module _ (accepts : refuses (judge_of r) ≡ false) where
-    verdict_same : figures_any_verdict r froms tos row ≡ figures_verdict r froms tos row
+    verdict_same_here : figures_any_verdict r froms tos row ≡ figures_verdict r froms tos row
     unfolding figures_any_verdict figures_verdict
-    verdict_same =
+    verdict_same_here =
         rw (
           judge_any_same r (λ is. true≢false (sym (ap is_refusal is) ∙ accepts)),
           list_any_same r.head (stops_of r) (sound_right (stops_of r) r.head (run_sound r (accepted_run r accepts))) froms tos,
@@ -190,11 +190,11 @@ module _ (r : Run) (froms tos : List ℕ) (row : List ℤ) where
 
     figure_same : (list : List Detour) (i : ℕ) → figure_any_of r list i ≡ figure_of r list i
     unfolding figure_any_of figure_of
-    figure_same list i = rw (priced-same r (accepted_run r accepts) (without i list), priced-same r (accepted_run r accepts) list)
+    figure_same list i = rw (priced_same r (accepted_run r accepts) (without i list), priced_same r (accepted_run r accepts) list)
 
     pub figures_are : (list : List Detour) → figures_any_of r list ≡ figures_of r list
     figures_are list = by_same (figure_any_of r list) (figure_of r list) (figure_same list) (length list) 0
 
     pub figures_same : (figures_any_answer r froms tos row ≡ figures_answer r froms tos row) × (figures_any_row r froms tos row ≡ figures_row r froms tos row)
     unfolding figures_any_answer figures_answer figures_any_row figures_row
-    figures_same = (rw (verdict_same, priced-same r (accepted_run r accepts) (list_of froms tos)), rw (verdict_same, figures_are (list_of froms tos)))
+    figures_same = (rw (verdict_same_here, priced_same r (accepted_run r accepts) (list_of froms tos)), rw (verdict_same_here, figures_are (list_of froms tos)))

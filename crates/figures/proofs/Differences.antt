@@ -32,8 +32,8 @@ module _ (a b : ℕ) (l : a < 2 ^ 58) (m : b < 2 ^ 58) where
   pub word_fits : SFits w64 (to_z w64 a -ℤ to_z w64 b)
   word_fits = rw read_both (difference_fits a b l m)
 
-  pub difference_is_here : to_z w64 (of_z w64 (to_z w64 a -ℤ to_z w64 b)) ≡ pos a -ℤ pos b
-  difference_is_here = to_z-of_z w64 (to_z w64 a -ℤ to_z w64 b) word_fits ∙ read_both
+  pub difference_is : to_z w64 (of_z w64 (to_z w64 a -ℤ to_z w64 b)) ≡ pos a -ℤ pos b
+  difference_is = to_z-of_z w64 (to_z w64 a -ℤ to_z w64 b) word_fits ∙ read_both
 
 -- What lies below 0 is the other difference with a minus; what does not is the difference itself.
 pub below_zero : (a b : ℕ) → a < b → pos 0 -ℤ pos (b - a) ≡ pos a -ℤ pos b

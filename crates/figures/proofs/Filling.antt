@@ -14,8 +14,8 @@ module _ {A : Type 0} (none : A) where
     pub same : length row ≡ length row₀
     pub is : row ≡ take i target ++ drop i row₀
 
-  pub filling_start_here : (target row₀ : List A) → length target ≤ length row₀ → Filling target row₀ row₀ 0
-  filling_start_here target row₀ fits = record { fits = fits; within = omega arith; same = refl; is = refl }
+  pub filling_start : (target row₀ : List A) → length target ≤ length row₀ → Filling target row₀ row₀ 0
+  filling_start target row₀ fits = record { fits = fits; within = omega arith; same = refl; is = refl }
 
   module _ (target row₀ row : List A) (i : ℕ) (p : Filling target row₀ row i) where
     pub filling_more : i < length target → (n : A) → n ≡ get_or target i none → Filling target row₀ (set row i n) (i + 1)

@@ -12,7 +12,7 @@ use Rattle.refusals.specs.Refusals.{first_where}
 use Rattle.runs.specs.Run.{Stop}
 use Rattle.runs.specs.Lists.{Detour, list_of, bad_alone, bad_after, bad_entry, any_below, entry_of, first_bad_entry, WellFormed}
 use Rattle.runs.specs.AnyHead.{past_head, bad_entry_any, first_bad_entry_any, WellFormedAny}
-use Rattle.runs.proofs.Search.{first-zero, first_all, any-zero, or_false_both}
+use Rattle.runs.proofs.Search.{first_zero, first_all, any_zero, or_false_both}
 use Rattle.walk.proofs.AnyHead.{any_formed}
 use Rattle.figures.specs.Figures.{without}
 
@@ -94,10 +94,10 @@ without_formed stops list i h formed = first_all (bad_entry stops (without i lis
 
     each : (j : ℕ) → j < length (without i list) → bad_entry stops (without i list) j ≡ false
     each j l =
-        let was = first-zero (bad_entry stops list) (length list) formed (past i j) (omega (arith, past_most i j, without_length i list h)) in
+        let was = first_zero (bad_entry stops list) (length list) formed (past i j) (omega (arith, past_most i j, without_length i list h)) in
         let both = or_false_both (bad_alone stops (entry_of list (past i j))) (any_below (λ k. bad_after (entry_of list k) (entry_of list (past i j))) (past i j)) was in
         let before : any_below (λ k. bad_after (entry_of (without i list) k) (entry_of (without i list) j)) j ≡ false =
-        any_all _ j (λ k m. rw (at k, at j) (any-zero (λ n. bad_after (entry_of list n) (entry_of list (past i j))) (past i j) both.1 (past i k) (past_rises i k j m))) in
+        any_all _ j (λ k m. rw (at k, at j) (any_zero (λ n. bad_after (entry_of list n) (entry_of list (past i j))) (past i j) both.1 (past i k) (past_rises i k j m))) in
         rw (before, at j, both.0)
 
 -- So it is for a head anywhere, of which the rules ask something of an entry by itself.
@@ -107,7 +107,7 @@ without_formed_any m stops list i h formed = first_all (bad_entry_any m stops (w
   where
     each : (j : ℕ) → j < length (without i list) → bad_entry_any m stops (without i list) j ≡ false
     each j l =
-        let by-01 = first-zero (bad_entry stops (without i list)) (length (without i list)) (without_formed stops list i h (any_formed m stops list formed)) j l in
-        let was = first-zero (bad_entry_any m stops list) (length list) formed (past i j) (omega (arith, past_most i j, without_length i list h)) in
+        let by-01 = first_zero (bad_entry stops (without i list)) (length (without i list)) (without_formed stops list i h (any_formed m stops list formed)) j l in
+        let was = first_zero (bad_entry_any m stops list) (length list) formed (past i j) (omega (arith, past_most i j, without_length i list h)) in
         let clear : past_head m stops (entry_of list (past i j)).from ≡ false = (or_false_both (bad_entry stops list (past i j)) _ was).1 in
         rw (by-01, without_at (record { from = 0; to = 0 }) i list j, clear)

@@ -10,9 +10,9 @@ use mathlib.Core.Logic.{by_cases}
 use lib.Dec.{leb}
 use borrow.Author.Tests.{le-leb, lt-leb}
 use Rattle.least.proofs.Plan.{Over}
-use Rattle.least.proofs.Columns.{Agree, filled-first, filled_next}
+use Rattle.least.proofs.Columns.{Agree, filled_first, filled_next}
 use Rattle.least.proofs.Cost.{cost}
-use Rattle.least.proofs.Value.{choice-first, choice-value, value_none, value-least-skip, value_least}
+use Rattle.least.proofs.Value.{choice_first, choice_value, value_none, value_least_skip, value_least}
 use Rattle.least.specs.Recurrence.{Plan, empty, skip, detour, CellsOf, filled, value, candidate, choice, nextPlan, best, built}
 
 module _ (L R C : ℕ → ℕ) (U : ℕ) where
@@ -22,7 +22,7 @@ module _ (L R C : ℕ → ℕ) (U : ℕ) where
   built_same P Q a b s (suc d) h e = rw (e (suc d) b (s + C (suc b)) (omega arith), e a d s (omega arith))
 
   choice_within : (a b s : ℕ) → a ≤ b → choice L R C U a b s ≤ suc b
-  choice_within a b s h = by_cases (dec_le 1 (choice L R C U a b s)) (λ l. omega (arith, (choice-first L R C U a b s h).within l)) (λ n. omega arith)
+  choice_within a b s h = by_cases (dec_le 1 (choice L R C U a b s)) (λ l. omega (arith, (choice_first L R C U a b s h).within l)) (λ n. omega arith)
 
   next_plan_first : (P : CellsOf Plan) (a s : ℕ) → nextPlan L R C U P a 0 s ≡ empty
   unfolding nextPlan
@@ -43,7 +43,7 @@ module _ (L R C : ℕ → ℕ) (U : ℕ) where
 
   pub best_none : (a b s : ℕ) → b ≤ a → best L R C U a b s ≡ empty
   unfolding nextPlan best
-  best_none a zero s h = filled-first empty (nextPlan L R C U) next_plan_first next_plan_same a s
+  best_none a zero s h = filled_first empty (nextPlan L R C U) next_plan_first next_plan_same a s
   best_none a (suc b) s h = best_next a b s ∙ rw (lt-leb a b h)
 
   pub best_step : (a b s : ℕ) → a ≤ b → best L R C U a (suc b) s ≡ built L R C U (best L R C U) a b s (choice L R C U a b s)
@@ -62,7 +62,7 @@ module _ (L R C : ℕ → ℕ) (U : ℕ) where
   unfolding cost
   best_least empty a b s o = omega (arith, value_none L R C U a b s o)
   best_least (skip p) a zero s o = absurd o
-  best_least (skip p) a (suc b) s o = omega (arith, value-least-skip L R C U a b s o.0, best_least p a b (s + C (suc b)) o.1)
+  best_least (skip p) a (suc b) s o = omega (arith, value_least_skip L R C U a b s o.0, best_least p a b (s + C (suc b)) o.1)
   best_least (detour d inner rest) a zero s o = absurd o
   best_least (detour d inner rest) a (suc b) s o =
       omega (arith, value_least L R C U a b s d o.0 o.1, best_least inner (suc d) b (s + C (suc b)) o.2, best_least rest a d s o.3)
@@ -76,16 +76,16 @@ module _ (L R C : ℕ → ℕ) (U : ℕ) where
   unfolding cost candidate
   attains_skip p a b s h e g = record {
     over = (h, g.over);
-    costs = omega (arith, g.costs, rw e at (choice-value L R C U a b s h));
+    costs = omega (arith, g.costs, rw e at (choice_value L R C U a b s h));
   }
 
   attains_detour : (d : ℕ) (p q : Plan) (a b s : ℕ) → a ≤ b → choice L R C U a b s ≡ suc d → Attains p (suc d) b (s + C (suc b)) → Attains q a d s → Attains (detour d p q) a (suc b) s
   unfolding cost candidate
   attains_detour d p q a b s h e g k =
-      let w : (a < suc d) × (suc d ≤ suc b) = rw e at ((choice-first L R C U a b s h).within (omega arith)) in
+      let w : (a < suc d) × (suc d ≤ suc b) = rw e at ((choice_first L R C U a b s h).within (omega arith)) in
       record {
         over = (omega arith, omega arith, g.over, k.over);
-        costs = omega (arith, g.costs, k.costs, rw e at (choice-value L R C U a b s h));
+        costs = omega (arith, g.costs, k.costs, rw e at (choice_value L R C U a b s h));
       }
 
   best_attains_step : (a b s : ℕ) → a ≤ b → ((a b' s : ℕ) → b' ≤ b → Attains (best L R C U a b' s) a b' s) → Attains (best L R C U a (suc b) s) a (suc b) s

@@ -7,7 +7,7 @@ use mathlib.Core.Path.{◌≡◌}
 use mathlib.Core.Logic.{by_cases}
 use Rattle.least.proofs.Sums.{W-suc, W-rises, win, win_step, win_within, win_most}
 use Rattle.least.specs.Recurrence.{W, early, wait, value, candidate}
-use Rattle.least.proofs.Value.{value_none, value-least-skip}
+use Rattle.least.proofs.Value.{value_none, value_least_skip}
 
 bound_step : (v e v' B w c w' : ℕ) → v ≤ e + v' → e ≤ 2 * B * c → v' ≤ 2 * B * w → w' ≡ w + c → v ≤ 2 * B * w'
 bound_step v e v' B w c w' h i j k = rw k (omega arith)
@@ -25,7 +25,7 @@ module _ (L R C : ℕ → ℕ) (U : ℕ) where
       by_cases
       (dec_le a b)
       (λ h. bound_step (value L R C U a (suc b) s) (early L C a (suc b)) (value L R C U a b (s + C (suc b))) B (win C a b) (C (suc b)) (win C a (suc b))
-      (value-least-skip L R C U a b s h)
+      (value_least_skip L R C U a b s h)
       (early_bound B a (suc b) (l (suc b) (le_refl (suc b))))
       (value_win B a b (s + C (suc b)) (λ i k. l i (omega arith)))
       (win_step C a b h))

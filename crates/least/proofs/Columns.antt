@@ -18,13 +18,13 @@ module _ {A : Type 0} (blank : A) (next : CellsOf A → CellsOf A) where
     filled_stays zero a b s h = let e : b ≡ 0 = omega arith in rw e (first (λ a b s. blank) a s)
     filled_stays (suc f) a b s h = same (filledTo blank next (suc f)) (filledTo blank next f) f (filled_stays f) a b s h
 
-    pub filled_all_here : (f : ℕ) → Agree (filledTo blank next f) (filled blank next) f
+    pub filled_all : (f : ℕ) → Agree (filledTo blank next f) (filled blank next) f
     unfolding filled
-    filled_all_here zero a b s h = let e : b ≡ 0 = omega arith in rw e
-    filled_all_here (suc f) a b s h =
+    filled_all zero a b s h = let e : b ≡ 0 = omega arith in rw e
+    filled_all (suc f) a b s h =
         by_cases
         (dec_le b f)
-        (λ l. filled_stays f a b s l ∙ filled_all_here f a b s l)
+        (λ l. filled_stays f a b s l ∙ filled_all f a b s l)
         (λ n. let e : b ≡ suc f = omega arith in rw e)
 
     pub filled_first : (a s : ℕ) → filled blank next a 0 s ≡ blank
@@ -33,4 +33,4 @@ module _ {A : Type 0} (blank : A) (next : CellsOf A → CellsOf A) where
 
     pub filled_next : (a b s : ℕ) → filled blank next a (suc b) s ≡ next (filled blank next) a (suc b) s
     unfolding filled filledTo
-    filled_next a b s = same (filledTo blank next b) (filled blank next) b (filled_all_here b) a (suc b) s (le_refl (suc b))
+    filled_next a b s = same (filledTo blank next b) (filled blank next) b (filled_all b) a (suc b) s (le_refl (suc b))

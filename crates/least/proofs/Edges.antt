@@ -8,7 +8,7 @@ use mathlib.Core.Logic.{by_cases}
 use Rattle.least.specs.Recurrence.{W, early, trip, wait, lowest, candidate, value}
 use Rattle.least.specs.Slopes.{Supported}
 use Rattle.least.proofs.Lines.{supported_line, supported_sum, supported_from, supported_same, supported_lowest}
-use Rattle.least.proofs.Value.{value_none, value-step}
+use Rattle.least.proofs.Value.{value_none, value_step}
 
 module _ (L R C : ℕ → ℕ) (U : ℕ) where
   -- The windows up to stop b.
@@ -52,7 +52,7 @@ module _ (L R C : ℕ → ℕ) (U : ℕ) where
       supported_same
       (λ s. lowest (candidate L R C U (value L R C U) a b s) a (suc b) (candidate L R C U (value L R C U) a b s 0))
       (λ s. value L R C U a (suc b) s) n
-      (λ s l. sym (value-step L R C U a b s h))
+      (λ s l. sym (value_step L R C U a b s h))
       (supported_lowest (λ s. candidate L R C U (value L R C U) a b s) (λ s. candidate L R C U (value L R C U) a b s 0) a (suc b) n
       (candidate_edge a b 0 n x (omega arith))
       (λ d k l. candidate_edge a b (suc d) n x (omega arith))))

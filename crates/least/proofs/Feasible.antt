@@ -12,8 +12,8 @@ use Rattle.walk.specs.declared.Leg.{Leg}
 use Rattle.walk.specs.Walk.{head_at, Moves, served, time_of}
 use Rattle.least.proofs.Plan.{Over, lagAfter, legTime, timeIn}
 use Rattle.least.proofs.Rising.{Rises}
-use Rattle.least.proofs.Times.{Spaced, starts-rise, planTime, unread-outside, time-in-inner, time-in-rest}
-use Rattle.least.proofs.Movements.{PairLaw, floor-of-movement, pair-of-movement}
+use Rattle.least.proofs.Times.{Spaced, starts_rise, planTime, unread_outside, time_in_inner, time_in_rest}
+use Rattle.least.proofs.Movements.{PairLaw, floor_of_movement, pair_of_movement}
 use Rattle.least.specs.Recurrence.{Plan, empty, skip, detour, trip}
 
 -- A time for each of the stops 0 … n that obeys the floor and pair laws.
@@ -27,8 +27,8 @@ pub feasible_of_movement : (U m : ℕ) (xs : List Leg) → Moves m xs → (s : �
     → Feasible m U (λ i. (s i).start) (λ i. (s i).end) n (λ i. time_of U (head_at m) xs (s i))
 feasible_of_movement U m xs v s n o t =
     record {
-      floor = λ i h. floor-of-movement U m xs v (s i) (o i h) (t i h);
-      pair = λ i j l h. pair-of-movement U m xs v (s i) (s j) (o i (omega arith)) (o j h) (t i (omega arith)) (t j h);
+      floor = λ i h. floor_of_movement U m xs v (s i) (o i h) (t i h);
+      pair = λ i j l h. pair_of_movement U m xs v (s i) (s j) (o i (omega arith)) (o j h) (t i (omega arith)) (t j h);
     }
 
 module _ (m U : ℕ) (L R : ℕ → ℕ) (n : ℕ) (t : ℕ → ℕ) (ok : Feasible m U L R n t) where
@@ -97,7 +97,7 @@ module _ (L R : ℕ → ℕ) (U n : ℕ) (t : ℕ → ℕ) (spaced : Spaced L R 
   outside_timely : (a b y j : ℕ) (w : Built a b y) → (j ≤ a) ⊎ (b < j) → t a + R j ≤ t j + R a → planTime L R U w.plan a b y j ≤ t j
   outside_timely a b y j w out f =
       rw
-      (unread-outside L R U w.plan a b y j (legTime L R U (lagAfter L R U w.plan b y) a j) w.over out)
+      (unread_outside L R U w.plan a b y j (legTime L R U (lagAfter L R U w.plan b y) a j) w.over out)
       (leg_in_time (lagAfter L R U w.plan b y) a j w.start f)
 
   start_timely : (a b y j : ℕ) (w : Built a b y) → j ≡ a → planTime L R U w.plan a b y j ≤ t j
@@ -127,7 +127,7 @@ module _ (L R : ℕ → ℕ) (U n : ℕ) (t : ℕ → ℕ) (spaced : Spaced L R 
   -- The lag after a detour leaves time for every stop of the second kind against its end.
   second_reached : (y d b j : ℕ) → d ≤ b → suc b ≤ n → Reaches y (suc d) → t (suc d) + R (suc b) ≤ t (suc b) + R (suc d)
       → t (suc b) + 2 * U + R (suc b) + R j ≤ t j + 2 * L j → Reaches (y + trip L R U (suc d) (suc b)) j
-  second_reached y d b j l h r f s = omega (arith, starts-rise L R n spaced (suc d) (suc b) (omega arith) h, spaced.extends (suc b) h)
+  second_reached y d b j l h r f s = omega (arith, starts_rise L R n spaced (suc d) (suc b) (omega arith) h, spaced.extends (suc b) h)
 
   build_detour : (a b y : ℕ) (st : Start a b) (w : Built (suc st.d) b y)
       → Built a st.d (lagAfter L R U w.plan b y + trip L R U (suc st.d) (suc b)) → Built a (suc b) y
@@ -139,8 +139,8 @@ module _ (L R : ℕ → ℕ) (U n : ℕ) (t : ℕ → ℕ) (spaced : Spaced L R 
         start = v.start;
         timely = λ j l i.
             by_cases (dec_le j st.d)
-            (λ g. rw (time-in-rest L R U st.d b y j (legTime L R U (lagAfter L R U v.plan st.d (lagAfter L R U w.plan b y + trip L R U (suc st.d) (suc b))) a j) w.plan v.plan g) (v.timely j l g))
-            (λ g. rw (time-in-inner L R U st.d b y j (legTime L R U (lagAfter L R U v.plan st.d (lagAfter L R U w.plan b y + trip L R U (suc st.d) (suc b))) a j) w.plan v.plan (omega arith) i) (inner_timely st.d b y j w st.first (omega arith) i));
+            (λ g. rw (time_in_rest L R U st.d b y j (legTime L R U (lagAfter L R U v.plan st.d (lagAfter L R U w.plan b y + trip L R U (suc st.d) (suc b))) a j) w.plan v.plan g) (v.timely j l g))
+            (λ g. rw (time_in_inner L R U st.d b y j (legTime L R U (lagAfter L R U v.plan st.d (lagAfter L R U w.plan b y + trip L R U (suc st.d) (suc b))) a j) w.plan v.plan (omega arith) i) (inner_timely st.d b y j w st.first (omega arith) i));
       }
 
   -- What the recursion carries: the leg that starts at a, and every stop of the window, can still be in time.

@@ -9,7 +9,7 @@ use mathlib.Core.Logic.{by_cases}
 use Rattle.least.proofs.Plan.{Over, lagAfter, legTime, timeIn}
 use Rattle.least.proofs.Sums.{W-zero, W-suc, win, win_none, win_step, win_split, win_first, win_same, win_shift, W-win, W-first}
 use Rattle.least.proofs.Cost.{cost}
-use Rattle.least.proofs.Times.{Spaced, starts-rise, legTime-exact, planTime, lag-grows, time-in-inner, time-in-rest, unread-right, unread-left}
+use Rattle.least.proofs.Times.{Spaced, starts_rise, leg_time_exact, planTime, lag_grows, time_in_inner, time_in_rest, unread_right, unread_left}
 use Rattle.least.proofs.Ties.{over_none}
 use Rattle.least.specs.Recurrence.{Plan, empty, skip, detour, trip, W, early}
 
@@ -64,8 +64,8 @@ module _ (L R C : ℕ → ℕ) (U n : ℕ) (spaced : Spaced L R n) where
   read_shift : (y y' i : ℕ) → Reach y → y ≤ y' → i ≤ n → C i * legTime L R U y' i i + y * C i ≡ C i * legTime L R U y i i + y' * C i
   read_shift y y' i r h l =
       leg_shift (C i) (legTime L R U y i i) (legTime L R U y' i i) y y' (2 * L i) (U + R i)
-      (legTime-exact L R n spaced U y i i (r i l) (le_refl i) l)
-      (legTime-exact L R n spaced U y' i i (omega (arith, r i l)) (le_refl i) l)
+      (leg_time_exact L R n spaced U y i i (r i l) (le_refl i) l)
+      (leg_time_exact L R n spaced U y' i i (omega (arith, r i l)) (le_refl i) l)
 
   least_shift : (y y' a b : ℕ) → Reach y → y ≤ y' → b ≤ n → leastSum L R C U y' a b + y * win C a b ≡ leastSum L R C U y a b + y' * win C a b
   least_shift y y' a b r h l =
@@ -85,7 +85,7 @@ module _ (L R C : ℕ → ℕ) (U n : ℕ) (spaced : Spaced L R n) where
   widen : (p : Plan) (a b s y : ℕ) → Over p a b → a ≤ b → suc b ≤ n → Reach y → Balanced p a b (s + C (suc b)) y → Widened p a b s y
   widen p a b s y o h l r ih =
       rw
-      (win_step (λ i. C i * planTime L R U p a b y i) a b h, win_step (λ i. C i * legTime L R U y i i) a b h, unread-right L R U p a b y (suc b) (legTime L R U (lagAfter L R U p b y) a (suc b)) o (le_refl (suc b)))
+      (win_step (λ i. C i * planTime L R U p a b y i) a b h, win_step (λ i. C i * legTime L R U y i i) a b h, unread_right L R U p a b y (suc b) (legTime L R U (lagAfter L R U p b y) a (suc b)) o (le_refl (suc b)))
       (skip_sum
       (readSum L R C U p a b y)
       (leastSum L R C U y a b)
@@ -101,9 +101,9 @@ module _ (L R C : ℕ → ℕ) (U n : ℕ) (spaced : Spaced L R n) where
       (legTime L R U y (suc b) (suc b))
       (legTime L R U (lagAfter L R U p b y) a (suc b))
       (cost L R C U p a b (s + C (suc b)))
-      (legTime-exact L R n spaced U (lagAfter L R U p b y) a (suc b) (omega (arith, r a (omega arith), lag-grows L R U p b y)) (omega arith) l)
-      (legTime-exact L R n spaced U y (suc b) (suc b) (r (suc b) l) (le_refl (suc b)) l)
-      (omega (arith, starts-rise L R n spaced a (suc b) (omega arith) l))
+      (leg_time_exact L R n spaced U (lagAfter L R U p b y) a (suc b) (omega (arith, r a (omega arith), lag_grows L R U p b y)) (omega arith) l)
+      (leg_time_exact L R n spaced U y (suc b) (suc b) (r (suc b) l) (le_refl (suc b)) l)
+      (omega (arith, starts_rise L R n spaced a (suc b) (omega arith) l))
       ih)
 
   -- A detour from suc b to itself has nothing inside.
@@ -132,14 +132,14 @@ module _ (L R C : ℕ → ℕ) (U n : ℕ) (spaced : Spaced L R n) where
 
     read_rest : (i : ℕ) → i ≤ d → read i ≡ C i * planTime L R U q a d (midLag + trip L R U (suc d) (suc b)) i
     unfolding read lagAfter
-    read_rest i h = rw (time-in-rest L R U d b y i (legTime L R U (lagAfter L R U (detour d p q) (suc b) y) a i) p q h)
+    read_rest i h = rw (time_in_rest L R U d b y i (legTime L R U (lagAfter L R U (detour d p q) (suc b) y) a i) p q h)
 
     read_inner : (i : ℕ) → d < i → i ≤ suc b → read i ≡ C i * planTime L R U p (suc d) b y i
     unfolding read
-    read_inner i h l = rw (time-in-inner L R U d b y i (legTime L R U (lagAfter L R U (detour d p q) (suc b) y) a i) p q h l)
+    read_inner i h l = rw (time_in_inner L R U d b y i (legTime L R U (lagAfter L R U (detour d p q) (suc b) y) a i) p q h l)
 
     read_start : read (suc d) ≡ C (suc d) * legTime L R U midLag (suc d) (suc d)
-    read_start = read_inner (suc d) (le_refl (suc d)) (omega arith) ∙ ap (λ (x : ℕ). C (suc d) * x) (unread-left L R U p (suc d) b y (suc d) (legTime L R U midLag (suc d) (suc d)) o.2 (le_refl (suc d)))
+    read_start = read_inner (suc d) (le_refl (suc d)) (omega arith) ∙ ap (λ (x : ℕ). C (suc d) * x) (unread_left L R U p (suc d) b y (suc d) (legTime L R U midLag (suc d) (suc d)) o.2 (le_refl (suc d)))
 
     read_split :
         readSum L R C U (detour d p q) a (suc b) y
@@ -169,7 +169,7 @@ module _ (L R C : ℕ → ℕ) (U n : ℕ) (spaced : Spaced L R n) where
   unfolding lagAfter cost
   detour_balanced d p q a b s y o l r hp hq =
       let y₁ = lagAfter L R U p b y in
-      let grows = lag-grows L R U p b y in
+      let grows = lag_grows L R U p b y in
       rw
       (read_split d p q a b y o, least_split d a b y o.0 o.1, W-win C a d o.0)
       (detour_sum
@@ -203,7 +203,7 @@ module _ (L R C : ℕ → ℕ) (U n : ℕ) (spaced : Spaced L R n) where
   balanced (skip p) a (suc b) s y o l r = widen p a b s y o.1 o.0 l r (balanced p a b (s + C (suc b)) y o.1 (omega arith) r)
   balanced (detour d p q) a zero s y o l r = absurd o
   balanced (detour d p q) a (suc b) s y o l r =
-      let grows = lag-grows L R U p b y in
+      let grows = lag_grows L R U p b y in
       detour_balanced d p q a b s y o l r
       (balanced p (suc d) b (s + C (suc b)) y o.2 (omega arith) r)
       (balanced q a d s (lagAfter L R U p b y + trip L R U (suc d) (suc b)) o.3 (omega arith) (λ j x. omega (arith, r j x)))
@@ -213,8 +213,8 @@ module _ (L R C : ℕ → ℕ) (U n : ℕ) (spaced : Spaced L R n) where
   cost_identity p m o r =
       let y = lagAfter L R U p n m in
       rw
-      (W-first (λ i. C i * planTime L R U p 0 n m i) n, W-first (λ i. C i * legTime L R U m i i) n, unread-left L R U p 0 n m 0 (legTime L R U y 0 0) o (omega arith))
+      (W-first (λ i. C i * planTime L R U p 0 n m i) n, W-first (λ i. C i * legTime L R U m i i) n, unread_left L R U p 0 n m 0 (legTime L R U y 0 0) o (omega arith))
       (run_sum
       (readSum L R C U p 0 n m) (leastSum L R C U m 0 n) (cost L R C U p 0 n 0) (C 0) m y (legTime L R U m 0 0) (legTime L R U y 0 0)
       (rw (W-suc C 0, W-zero C) at (balanced p 0 n 0 m o (le_refl n) r))
-      (read_shift m y 0 r (lag-grows L R U p n m) (omega arith)))
+      (read_shift m y 0 r (lag_grows L R U p n m) (omega arith)))

@@ -15,25 +15,25 @@ use Rattle.runs.specs.Run.{Stop}
 use Rattle.runs.specs.Rows.{stop_at}
 use Rattle.runs.specs.Lists.{Detour, wanted, leftmost, entry_of, bad_alone, bad_entry, first_bad_entry, WellFormed}
 use Rattle.runs.specs.AnyHead.{smaller, pulled_stop, pulled, past_head, bad_entry_any, first_bad_entry_any, WellFormedAny}
-use Rattle.runs.proofs.Search.{or_false_both, first-zero, first_all}
+use Rattle.runs.proofs.Search.{or_false_both, first_zero, first_all}
 use Rattle.runs.proofs.Sound.{Sound, SoundAny}
 use Rattle.runs.proofs.AnyHead.{smaller_is, smaller_rises, smaller_above, smaller_second, pulled_length, pulled_at, wanted_pulled, leftmost_pulled, sound_right, pulled_same}
 use Rattle.walk.specs.Walk.{head_at, ServesAll, time_of, sum_of}
 use Rattle.walk.specs.Detours.{start_of}
 use Rattle.walk.specs.AnyHead.{legs_any_of}
-use Rattle.walk.proofs.Pulled.{served-from-pulled, time-pulled, start-pulled, legs-left, list-sum-pulled}
+use Rattle.walk.proofs.Pulled.{served_from_pulled, time_pulled, start_pulled, legs_left, list_sum_pulled}
 use Rattle.least.specs.Least.{list_sum, LeastFor}
 use Rattle.least.specs.AnyHead.{list_sum_any, LeastAnyFor}
 use Rattle.least.specs.Recurrence.{Plan, empty, skip, detour, plan_detours, file_at, left_at, right_at, count_at, best_plan, least_list}
 use Rattle.least.proofs.Plan.{Over, Owned}
-use Rattle.least.proofs.Best.{best-over}
-use Rattle.least.proofs.Rising.{index-order}
-use Rattle.least.proofs.Times.{starts-rise}
-use Rattle.least.proofs.Rules.{All, all_append, all_split, all-of-index, index-of-all, rules-of-formed, formed_by_names}
-use Rattle.least.proofs.Sweeps.{each_served_any, serves_each, swept_time, time_by_end, LastRead, none_reads_first, detour-past-first, ends-with-a-read}
+use Rattle.least.proofs.Best.{best_over}
+use Rattle.least.proofs.Rising.{index_order}
+use Rattle.least.proofs.Times.{starts_rise}
+use Rattle.least.proofs.Rules.{All, all_append, all_split, all_of_index, index_of_all, rules_of_formed, formed_by_names}
+use Rattle.least.proofs.Sweeps.{each_served_any, serves_each, swept_time, time_by_end, LastRead, none_reads_first, detour_past_first, ends_with_a_read}
 use Rattle.least.proofs.Walks.{sound_spaced, files_rise}
 use Rattle.least.proofs.Lists.{PlanOf, parse, none_wanted}
-use Rattle.least.proofs.LeastList.{least_list_none, least_list_some, least_list_lem, one_first, chosen-formed, chosen-owned, chosen-smallest, chosen-first}
+use Rattle.least.proofs.LeastList.{least_list_none, least_list_some, least_list_lem, one_first, chosen_formed, chosen_owned, chosen_smallest, chosen_first}
 
 -- Stops as a head at m meets them.
 module _ (m : ℕ) (stops : List Stop) (i : ℕ) (l : i < length stops) where
@@ -101,9 +101,9 @@ module _ (m : ℕ) (stops : List Stop) where
   unfolding first_bad_entry_any first_bad_entry
   any_rules list v =
       let t : (i : ℕ) → i < length list → (bad_entry stops list i ≡ false) × (past_head m stops (entry_of list i).from ≡ false)
-      = λ i h. or_false_both _ _ (first-zero (bad_entry_any m stops list) (length list) v i h) in (
+      = λ i h. or_false_both _ _ (first_zero (bad_entry_any m stops list) (length list) v i h) in (
         formed_by_names (pulled m stops) stops (wanted_pulled m stops) (leftmost_pulled m stops) list ∙ first_all (bad_entry stops list) (length list) (λ i h. (t i h).0),
-        all-of-index NotPast list (λ i h. (t i h).1),
+        all_of_index NotPast list (λ i h. (t i h).1),
       )
 
   any_of_rules : (list : List Detour) → WellFormed (pulled m stops) list → All NotPast list → WellFormedAny m stops list
@@ -111,7 +111,7 @@ module _ (m : ℕ) (stops : List Stop) where
   any_of_rules list v w =
       let formed : first_bad_entry stops list ≡ 0 = sym (formed_by_names (pulled m stops) stops (wanted_pulled m stops) (leftmost_pulled m stops) list) ∙ v in
       first_all (bad_entry_any m stops list) (length list)
-      (λ i h. rw (first-zero (bad_entry stops list) (length list) formed i h, index-of-all NotPast list w i h))
+      (λ i h. rw (first_zero (bad_entry stops list) (length list) formed i h, index_of_all NotPast list w i h))
 
 module _ (m M n : ℕ) (stops : List Stop) (ok : Sound stops M) (size : length stops ≡ suc n) where
   any : SoundAny (pulled m stops) m
@@ -140,8 +140,8 @@ module _ (m M n : ℕ) (stops : List Stop) (ok : Sound stops M) (size : length s
       left_past m stops _
       (λ i l f.
       let before : i < suc d
-      = index-order (file_at stops) n (λ j k a b. files_rise stops ok.ascends j k a (omega arith)) i (suc d) (omega arith) (omega (arith, pulled_file m stops (suc d) (omega arith))) in
-      omega (arith, starts-rise (left_at stops) (right_at stops) n (sound_spaced stops M n ok size) i d (omega arith) (omega arith)))
+      = index_order (file_at stops) n (λ j k a b. files_rise stops ok.ascends j k a (omega arith)) i (suc d) (omega arith) (omega (arith, pulled_file m stops (suc d) (omega arith))) in
+      omega (arith, starts_rise (left_at stops) (right_at stops) n (sound_spaced stops M n ok size) i d (omega arith) (omega arith)))
 
   plan_owned : (p : Plan) (a b : ℕ) → Over p a b → b ≤ n → All (NotPast m stops) (plan_detours (file_at (pulled m stops)) p b) → Owned (left_at (pulled m stops)) p
   unfolding plan_detours
@@ -175,17 +175,17 @@ module _ (m M n : ℕ) (stops : List Stop) (ok : Sound stops M) (size : length s
   some_least_any price =
       record {
         formed =
-            any_of_rules m stops chosen (chosen-formed m n (pulled m stops) any as_many price)
-            (owned_plan (best_plan price (pulled m stops) n) 0 n (best-over _ _ _ price 0 n 0) (omega arith) (chosen-owned m n (pulled m stops) any as_many price));
-        smallest = λ other v. omega (arith, sum chosen, sum other, chosen-smallest m n (pulled m stops) any as_many price other (plan_of other v) (own_of other v));
-        first = λ other v e. chosen-first m n (pulled m stops) any as_many price other (plan_of other v) (own_of other v) (sum other ∙ e ∙ sym (sum chosen));
+            any_of_rules m stops chosen (chosen_formed m n (pulled m stops) any as_many price)
+            (owned_plan (best_plan price (pulled m stops) n) 0 n (best_over _ _ _ price 0 n 0) (omega arith) (chosen_owned m n (pulled m stops) any as_many price));
+        smallest = λ other v. omega (arith, sum chosen, sum other, chosen_smallest m n (pulled m stops) any as_many price other (plan_of other v) (own_of other v));
+        first = λ other v e. chosen_first m n (pulled m stops) any as_many price other (plan_of other v) (own_of other v) (sum other ∙ e ∙ sym (sum chosen));
       }
     where
       chosen : List Detour
       chosen = plan_detours (file_at (pulled m stops)) (best_plan price (pulled m stops) n) n
 
       sum : (list : List Detour) → list_sum price m (pulled m stops) list ≡ list_sum_any price m stops list
-      sum list = list-sum-pulled m price (head_at m) stops list
+      sum list = list_sum_pulled m price (head_at m) stops list
 
 pub pulled_none : (m : ℕ) → pulled m [] ≡ []
 unfolding pulled
@@ -219,7 +219,7 @@ least_any_same price m stops ok list least =
 -- The walk of a list serves every stop where it lies; and it ends with a read.
 pub any_served : (m M : ℕ) (stops : List Stop) → Sound stops M → (list : List Detour) → ServesAll (legs_any_of m stops list) stops
 any_served m M stops ok list =
-    served-from-pulled m (legs_any_of m stops list) (legs-left m stops list) stops
+    served_from_pulled m (legs_any_of m stops list) (legs_left m stops list) stops
     (serves_each (legs_any_of m stops list) (pulled m stops) (each_served_any (pulled m stops) m (pulled_sound m M stops ok) list))
 
 -- An entry starts right of the leftmost stop.
@@ -235,7 +235,7 @@ module _ (m M : ℕ) (s : Stop) (ss : List Stop) (ok : Sound (s ∷ ss) M) (left
   no_detour_left [] v = refl
   no_detour_left (d ∷ list) v =
       let rules = any_rules m (s ∷ ss) (d ∷ list) v in
-      let inner : s.file < d.from = past_leftmost (pulled m (s ∷ ss)) s.file d (leftmost_pulled m (s ∷ ss)) (rules-of-formed (pulled m (s ∷ ss)) (d ∷ list) rules.0).0.0 in
+      let inner : s.file < d.from = past_leftmost (pulled m (s ∷ ss)) s.file d (leftmost_pulled m (s ∷ ss)) (rules_of_formed (pulled m (s ∷ ss)) (d ∷ list) rules.0).0.0 in
       absurd (omega (arith, past_left m (s ∷ ss) d.from rules.1.0 0 (omega arith) inner, left 0 (omega arith)))
 
   pub read_at_once : (U i : ℕ) → i < length (s ∷ ss) → time_of U (head_at m) (legs_any_of m (s ∷ ss) []) (stop_at (s ∷ ss) i) + m ≡ U + (stop_at (s ∷ ss) i).end
@@ -244,7 +244,7 @@ module _ (m M : ℕ) (s : Stop) (ss : List Stop) (ok : Sound (s ∷ ss) M) (left
       let at : stop_at (pulled m (s ∷ ss)) i ≡ pulled_stop m (stop_at (s ∷ ss) i) = pulled_at m (s ∷ ss) i l in
       let swept = swept_time (pulled_stop m s) (pulled m ss) m (pulled_sound m M (s ∷ ss) ok) U i (omega (arith, pulled_length m ss)) in
       let same : time_of U (head_at m) (legs_any_of m (s ∷ ss) []) (pulled_stop m (stop_at (s ∷ ss) i)) ≡ time_of U (head_at m) (legs_any_of m (s ∷ ss) []) (stop_at (s ∷ ss) i)
-      = time-pulled m U (legs_any_of m (s ∷ ss) []) (legs-left m (s ∷ ss) []) (head_at m) (stop_at (s ∷ ss) i) in
+      = time_pulled m U (legs_any_of m (s ∷ ss) []) (legs_left m (s ∷ ss) []) (head_at m) (stop_at (s ∷ ss) i) in
       omega (arith, smaller_second s.start m (left 0 (omega arith)), rw at at swept)
 
 -- The last event of a list's walk is a read.
@@ -254,22 +254,22 @@ module _ (m M : ℕ) (s : Stop) (ss : List Stop) (ok : Sound (s ∷ ss) M) (list
   starts_past_first i l =
       let rules = any_rules m (s ∷ ss) list formed in
       let names = formed_by_names (pulled m (s ∷ ss)) (s ∷ ss) (wanted_pulled m (s ∷ ss)) (leftmost_pulled m (s ∷ ss)) list in
-      let alone : bad_alone (s ∷ ss) (entry_of list i) ≡ false = (or_false_both _ _ (first-zero (bad_entry (s ∷ ss) list) (length list) (sym names ∙ rules.0) i l)).0 in
-      let low : s.start < start_of (s ∷ ss) (entry_of list i).from = detour-past-first s ss M ok (entry_of list i) alone in
+      let alone : bad_alone (s ∷ ss) (entry_of list i) ≡ false = (or_false_both _ _ (first_zero (bad_entry (s ∷ ss) list) (length list) (sym names ∙ rules.0) i l)).0 in
+      let low : s.start < start_of (s ∷ ss) (entry_of list i).from = detour_past_first s ss M ok (entry_of list i) alone in
       let inner : s.file < (entry_of list i).from = past_leftmost (s ∷ ss) s.file (entry_of list i) refl alone in
-      let here : s.start < m = past_left m (s ∷ ss) (entry_of list i).from (index-of-all (NotPast m (s ∷ ss)) list rules.1 i l) 0 (omega arith) inner in
-      omega (arith, start-pulled m (s ∷ ss) (entry_of list i).from, (smaller_is s.start m).first, smaller_above s.start (start_of (s ∷ ss) (entry_of list i).from) m low here)
+      let here : s.start < m = past_left m (s ∷ ss) (entry_of list i).from (index_of_all (NotPast m (s ∷ ss)) list rules.1 i l) 0 (omega arith) inner in
+      omega (arith, start_pulled m (s ∷ ss) (entry_of list i).from, (smaller_is s.start m).first, smaller_above s.start (start_of (s ∷ ss) (entry_of list i).from) m low here)
 
   last_read_any : LastRead U (head_at m) (legs_any_of m (s ∷ ss) list) (s ∷ ss)
   unfolding pulled
   last_read_any =
-      let r = ends-with-a-read (pulled_stop m s) (pulled m ss) m (pulled_sound m M (s ∷ ss) ok) list (none_reads_first (pulled_stop m s) (pulled m ss) list starts_past_first) U in
+      let r = ends_with_a_read (pulled_stop m s) (pulled m ss) m (pulled_sound m M (s ∷ ss) ok) list (none_reads_first (pulled_stop m s) (pulled m ss) list starts_past_first) U in
       let within : r.index < length (s ∷ ss) = omega (arith, r.within, pulled_length m ss) in
       let at : stop_at (pulled m (s ∷ ss)) r.index ≡ pulled_stop m (stop_at (s ∷ ss) r.index) = pulled_at m (s ∷ ss) r.index within in
       record {
         index = r.index;
         within = within;
-        clock = rw at at r.clock ∙ time-pulled m U (legs_any_of m (s ∷ ss) list) (legs-left m (s ∷ ss) list) (head_at m) (stop_at (s ∷ ss) r.index);
+        clock = rw at at r.clock ∙ time_pulled m U (legs_any_of m (s ∷ ss) list) (legs_left m (s ∷ ss) list) (head_at m) (stop_at (s ∷ ss) r.index);
         place = rw at at r.place;
         latest = λ i l. time_by_end U (head_at m) (legs_any_of m (s ∷ ss) list) (stop_at (s ∷ ss) i);
       }

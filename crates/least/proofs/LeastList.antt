@@ -15,14 +15,14 @@ use Rattle.runs.proofs.Search.{true_or_false}
 use Rattle.runs.proofs.Sound.{Sound, SoundAny, sound_any}
 use Rattle.least.specs.Least.{start_for, Sooner, ComesFirst, list_sum, LeastFor}
 use Rattle.least.proofs.Plan.{Over, Owned, start_in}
-use Rattle.least.proofs.Rising.{Rises, index-order}
-use Rattle.least.proofs.Best.{best-over}
+use Rattle.least.proofs.Rising.{Rises, index_order}
+use Rattle.least.proofs.Best.{best_over}
 use Rattle.least.proofs.Ties.{PlanFirst, NotBefore, start_bounds}
 use Rattle.least.proofs.Identity.{runSum}
-use Rattle.least.proofs.LeastPlan.{best-sum-least, best-sum-first}
-use Rattle.least.proofs.Starts.{best-owned}
+use Rattle.least.proofs.LeastPlan.{best_sum_least, best_sum_first}
+use Rattle.least.proofs.Starts.{best_owned}
 use Rattle.least.proofs.Walks.{any_spaced, sound_owned, walk_sum}
-use Rattle.least.proofs.Lists.{wanted_at, wanted_index, none_wanted, PlanOf, parse, numbers-rise, listed-formed, numbered, numbered_some, table-at-stop, table-off-stops}
+use Rattle.least.proofs.Lists.{wanted_at, wanted_index, none_wanted, PlanOf, parse, numbers_rise, listed_formed, numbered, numbered_some, table_at_stop, table_off_stops}
 use Rattle.least.specs.Recurrence.{Plan, plan_detours, best, file_at, left_at, right_at, count_at, best_plan, least_list}
 
 pub least_list_none : (price : ℕ) → least_list price [] ≡ []
@@ -53,11 +53,11 @@ module _ (m n : ℕ) (stops : List Stop) (ok : SoundAny stops m) (size : length 
         ⊎_elim
         (λ e.
         let w : (i : ℕ) × (i < length stops) × (file_at stops i ≡ g) = wanted_index stops g e in
-        let later : f.stop < w.0 = index-order (file_at stops) n (numbers-rise m n stops ok size) f.stop w.0 f.within (omega arith) in
-        rw (← w.2, table-at-stop m n stops ok size p op w.0 (omega arith), table-at-stop m n stops ok size q oq w.0 (omega arith), f.agree w.0 later))
+        let later : f.stop < w.0 = index_order (file_at stops) n (numbers_rise m n stops ok size) f.stop w.0 f.within (omega arith) in
+        rw (← w.2, table_at_stop m n stops ok size p op w.0 (omega arith), table_at_stop m n stops ok size q oq w.0 (omega arith), f.agree w.0 later))
         (λ e.
         let off : (j : ℕ) → j ≤ n → file_at stops j ≡ g → ⊥ = λ j l i. true≢false (sym (wanted_at stops j (omega arith)) ∙ ap (wanted stops) i ∙ e) in
-        table-off-stops m n stops ok size p op g off ∙ sym (table-off-stops m n stops ok size q oq g off))
+        table_off_stops m n stops ok size p op g off ∙ sym (table_off_stops m n stops ok size q oq g off))
         (true_or_false (wanted stops g))
 
     -- The tie rule on plans is the tie rule on their lists.
@@ -68,8 +68,8 @@ module _ (m n : ℕ) (stops : List Stop) (ok : SoundAny stops m) (size : length 
           agree = agree_beyond;
           sooner =
               rw
-              (table-at-stop m n stops ok size p op f.stop f.within, table-at-stop m n stops ok size q oq f.stop f.within)
-              (sooner_numbered (file_at stops) n (start_in p n f.stop) (start_in q n f.stop) (numbers-rise m n stops ok size) (λ i h. ok.named i (omega arith))
+              (table_at_stop m n stops ok size p op f.stop f.within, table_at_stop m n stops ok size q oq f.stop f.within)
+              (sooner_numbered (file_at stops) n (start_in p n f.stop) (start_in q n f.stop) (numbers_rise m n stops ok size) (λ i h. ok.named i (omega arith))
               (start_within p n f.stop op f.within) (start_within q n f.stop oq f.within) f.sooner);
         }
 
@@ -82,14 +82,14 @@ module _ (m n : ℕ) (stops : List Stop) (ok : SoundAny stops m) (size : length 
     chosen = plan_detours (file_at stops) (best_plan price stops n) n
 
     best_over_run : Over (best_plan price stops n) 0 n
-    best_over_run = best-over (left_at stops) (right_at stops) (count_at stops) price 0 n 0
+    best_over_run = best_over (left_at stops) (right_at stops) (count_at stops) price 0 n 0
 
     pub chosen_formed : WellFormed stops chosen
-    chosen_formed = listed-formed m n stops ok size (best_plan price stops n) best_over_run
+    chosen_formed = listed_formed m n stops ok size (best_plan price stops n) best_over_run
 
     pub chosen_owned : Owned (left_at stops) (best_plan price stops n)
     chosen_owned =
-        best-owned (left_at stops) (right_at stops) (count_at stops) price n (any_spaced stops m n ok size) (λ i h. ok.counted i (omega arith)) 0 n 0 (omega arith)
+        best_owned (left_at stops) (right_at stops) (count_at stops) price n (any_spaced stops m n ok size) (λ i h. ok.counted i (omega arith)) 0 n 0 (omega arith)
 
     within : (i : ℕ) → i ≤ n → left_at stops i ≤ m
     within i h = ok.within i (omega arith)
@@ -104,7 +104,7 @@ module _ (m n : ℕ) (stops : List Stop) (ok : SoundAny stops m) (size : length 
         omega (
           arith,
           sum_of_plan (best_plan price stops n) best_over_run chosen_owned,
-          best-sum-least (left_at stops) (right_at stops) (count_at stops) price n m (any_spaced stops m n ok size) within p o,
+          best_sum_least (left_at stops) (right_at stops) (count_at stops) price n m (any_spaced stops m n ok size) within p o,
         )
 
     module _ (other : List Detour) (w : PlanOf stops n other) (own : Owned (left_at stops) w.plan) where
@@ -121,7 +121,7 @@ module _ (m n : ℕ) (stops : List Stop) (ok : SoundAny stops m) (size : length 
           rw
           (← w.lists)
           (list_not_before w.plan (best_plan price stops n) w.over best_over_run
-          (best-sum-first (left_at stops) (right_at stops) (count_at stops) price n m (any_spaced stops m n ok size) within w.plan w.over same))
+          (best_sum_first (left_at stops) (right_at stops) (count_at stops) price n m (any_spaced stops m n ok size) within w.plan w.over same))
 
 -- Of stops that do not overlap every plan's walk is such.
 chosen_least : (price m n : ℕ) (stops : List Stop) → Sound stops m → length stops ≡ suc n → LeastFor price m stops (plan_detours (file_at stops) (best_plan price stops n) n)

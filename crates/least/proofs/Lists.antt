@@ -2,7 +2,7 @@
 -- and both have the same table of starts by ends.
 use Prim.Native.Nat.{ℕ, zero, suc, ◌-◌, ◌≤◌, ◌<◌}
 use mathlib.Core.Path.{◌≡◌, refl, sym, ap, ◌∙◌}
-use mathlib.Core.Bool.{true, false, not, ◌||◌, or_true, true≢false, false≢true}
+use mathlib.Core.Bool.{true, false, not, ◌||◌, or-true, true≢false, false≢true}
 use mathlib.Core.Logic.{◌⊎◌, inl, inr, ⊎_elim, by_cases, ◌≢◌}
 use mathlib.Core.List.{List, [], ◌∷◌, ◌++◌, map, map-append}
 use native.Mathlib.Omega.{arith}
@@ -16,9 +16,9 @@ use Rattle.runs.proofs.Search.{or_false_both}
 use Rattle.runs.proofs.Sound.{SoundAny}
 use Rattle.least.specs.Least.{start_for}
 use Rattle.least.proofs.Plan.{Over, start_in}
-use Rattle.least.proofs.Rising.{Rises, rises-not-strictly, index-order, index_same}
+use Rattle.least.proofs.Rising.{Rises, rises_not_strictly, index_order, index_same}
 use Rattle.least.proofs.Walks.{files_rise}
-use Rattle.least.proofs.Rules.{All, After, Ordered, all_of, all_of_two, all_append, all_split, ordered_append, ordered_split, Alone, rules-of-formed, formed-of-rules}
+use Rattle.least.proofs.Rules.{All, After, Ordered, all_of, all_of_two, all_append, all_split, ordered_append, ordered_split, Alone, rules_of_formed, formed_of_rules}
 use Rattle.least.specs.Recurrence.{Plan, empty, skip, detour, plan_detours, file_at}
 
 -- Entries as pairs of stops: the list of a plan with the stops' indices for numbers.
@@ -167,8 +167,8 @@ module _ (F : ℕ → ℕ) (n : ℕ) (rises : Rises F n) where
 
   after_back : (e d : Detour) → Within 0 n e → Within 0 n d → After (named F e) (named F d) → After e d
   after_back e d v w h = (
-    index-order F n rises d.from e.from (omega arith) h.0,
-    ⊎_elim (λ k. inl (index-order F n rises d.to e.from (omega arith) k)) (λ k. inr (index-order F n rises e.to d.to (omega arith) k)) h.1,
+    index_order F n rises d.from e.from (omega arith) h.0,
+    ⊎_elim (λ k. inl (index_order F n rises d.to e.from (omega arith) k)) (λ k. inr (index_order F n rises e.to d.to (omega arith) k)) h.1,
   )
 
   ordered_named : (xs : List Detour) → All (Within 0 n) xs → Ordered xs → Ordered (map (named F) xs)
@@ -190,7 +190,7 @@ pub wanted_at : (stops : List Stop) (i : ℕ) → i < length stops → wanted st
 unfolding wanted
 wanted_at [] i h = absurd (omega arith)
 wanted_at (s ∷ ss) zero h = rw (eq-eqb s.file s.file refl)
-wanted_at (s ∷ ss) (suc i) h = rw (wanted_at ss i (omega arith)) (or_true (eqb s.file (file_at ss i)))
+wanted_at (s ∷ ss) (suc i) h = rw (wanted_at ss i (omega arith)) (or-true (eqb s.file (file_at ss i)))
 
 pub wanted_index : (stops : List Stop) (f : ℕ) → wanted stops f ≡ true → (i : ℕ) × (i < length stops) × (file_at stops i ≡ f)
 unfolding wanted
@@ -209,7 +209,7 @@ leftmost_at (s ∷ ss) = refl
 pub none_wanted : (list : List Detour) → WellFormed [] list → list ≡ []
 unfolding wanted
 none_wanted [] v = refl
-none_wanted (d ∷ list) v = absurd (true≢false (rules-of-formed [] (d ∷ list) v).0.0)
+none_wanted (d ∷ list) v = absurd (true≢false (rules_of_formed [] (d ∷ list) v).0.0)
 
 -- A plan whose list is the one given.
 pub record PlanOf (stops : List Stop) (n : ℕ) (list : List Detour) : Type 0 where
@@ -226,7 +226,7 @@ module _ (m n : ℕ) (stops : List Stop) (ok : SoundAny stops m) (size : length 
       rw (
         wanted_at stops d.from (omega arith),
         wanted_at stops d.to (omega arith),
-        le-ltb (file_at stops d.to) (file_at stops d.from) (rises-not-strictly (file_at stops) n numbers_rise d.from d.to v.1 v.2),
+        le-ltb (file_at stops d.to) (file_at stops d.from) (rises_not_strictly (file_at stops) n numbers_rise d.from d.to v.1 v.2),
         leftmost_at stops,
         lt-leb (file_at stops d.from) (file_at stops 0) (numbers_rise 0 d.from v.0 (omega arith)),
       )
@@ -234,7 +234,7 @@ module _ (m n : ℕ) (stops : List Stop) (ok : SoundAny stops m) (size : length 
   pub listed_formed : (p : Plan) → Over p 0 n → WellFormed stops (plan_detours (file_at stops) p n)
   listed_formed p o =
       rw (listed_by_index (file_at stops) p n)
-      (formed-of-rules stops (map (named (file_at stops)) (indices p n))
+      (formed_of_rules stops (map (named (file_at stops)) (indices p n))
       (all_map (Alone stops) (named (file_at stops)) (indices p n)
       (all_of (Within 0 n) (λ d. Alone stops (named (file_at stops) d)) (indices p n) alone_named (within_plan p 0 n o)))
       (ordered_named (file_at stops) n numbers_rise (indices p n) (within_plan p 0 n o) (ordered_plan p 0 n o)))
@@ -250,7 +250,7 @@ module _ (m n : ℕ) (stops : List Stop) (ok : SoundAny stops m) (size : length 
       let order : file_at stops f.0 ≤ file_at stops t.0 = omega (arith, ltb-false d.to d.from b.1) in (
         record { from = f.0; to = t.0 },
         (
-          index-order (file_at stops) n numbers_rise 0 f.0 (omega arith) low,
+          index_order (file_at stops) n numbers_rise 0 f.0 (omega arith) low,
           by_cases (dec_le f.0 t.0) (λ h. h) (λ h. absurd (omega (arith, numbers_rise t.0 f.0 (omega arith) (omega arith)))),
           omega arith,
         ),
@@ -266,7 +266,7 @@ module _ (m n : ℕ) (stops : List Stop) (ok : SoundAny stops m) (size : length 
 
   pub parse : (list : List Detour) → WellFormed stops list → PlanOf stops n list
   parse list v =
-      let r : All (Alone stops) list × Ordered list = rules-of-formed stops list v in
+      let r : All (Alone stops) list × Ordered list = rules_of_formed stops list v in
       let b : (xs : List Detour) × All (Within 0 n) xs × (map (named (file_at stops)) xs ≡ list) = list_back list r.0 in
       let w : Parsed 0 n b.0 = parse_indices n 0 n b.0 (omega arith) b.1 (ordered_back (file_at stops) n numbers_rise b.0 b.1 (rw (← b.2) at r.1)) in
       record {

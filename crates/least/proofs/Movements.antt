@@ -14,7 +14,7 @@ use Rattle.walk.specs.declared.Way.TheVariants.{Leftward, Rightward}
 use Rattle.runs.specs.Run.{Stop}
 use Rattle.walk.specs.declared.Leg.{Leg}
 use Rattle.runs.proofs.Search.{true_or_false}
-use Rattle.walk.proofs.Steps.{faced_place, lag_of, lag-after-leg, time-in-leg, read_inside}
+use Rattle.walk.proofs.Steps.{faced_place, lag_of, lag_after_leg, time_in_leg, read_inside}
 use Rattle.walk.specs.Walk.{head_at, faced, ready, run_right, set_off, after_leg, Moves, reads, served, time_of}
 
 pub faced_later : (w : Way) (h : Head) (U : ℕ) → h.clock ≤ (faced w h U).clock
@@ -41,7 +41,7 @@ module _ (U : ℕ) (h : Head) (g : Leg) (gs : List Leg) (s : Stop) where
   pub read_at : g.left ≤ h.place → s.start ≤ s.end → reads g s ≡ true → time_of U h (g ∷ gs) s + 2 * g.left ≡ lag_of U h + U + s.end
   read_at l o e =
       let i : (g.left ≤ s.start) × (s.end ≤ g.right) = read_inside g s e in
-      rw (time_when_read e) (time-in-leg U h g s l (omega arith))
+      rw (time_when_read e) (time_in_leg U h g s l (omega arith))
 
 module _ (U : ℕ) (s : Stop) (o : s.start ≤ s.end) where
   -- No stop is read before the floor: the lag on arrival never falls.
@@ -51,7 +51,7 @@ module _ (U : ℕ) (s : Stop) (o : s.start ≤ s.end) where
   floor_from h (g ∷ gs) v t =
       ⊎_elim
       (λ e. let i : (g.left ≤ s.start) × (s.end ≤ g.right) = read_inside g s e in omega (arith, read_at U h g gs s v.0 o e))
-      (λ e. omega (arith, floor_from (after_leg U h g) gs v.2 (served_later g gs s e t), lag-after-leg U h g v.0 v.1, time_when_not U h g gs s e))
+      (λ e. omega (arith, floor_from (after_leg U h g) gs v.2 (served_later g gs s e t), lag_after_leg U h g v.0 v.1, time_when_not U h g gs s e))
       (true_or_false (reads g s))
 
   -- Nor does the clock less the place, at each turn to the right.
@@ -83,7 +83,7 @@ module _ (U : ℕ) (g f : Stop) (og : g.start ≤ g.end) (of : f.start ≤ f.end
   pair_right_first : (h : Head) (x : Leg) (xs : List Leg) → Moves h.place (x ∷ xs) → T (served (x ∷ xs) g) → reads x f ≡ true → reads x g ≡ false → time_of U h (x ∷ xs) f + 2 * U + f.end + g.end ≤ time_of U h (x ∷ xs) g + 2 * g.start
   pair_right_first h x xs v t e d =
       let i : (x.left ≤ f.start) × (f.end ≤ x.right) = read_inside x f e in
-      omega (arith, read_at U h x xs f v.0 of e, floor_from U g og (after_leg U h x) xs v.2 (served_later x xs g d t), lag-after-leg U h x v.0 v.1, time_when_not U h x xs g d)
+      omega (arith, read_at U h x xs f v.0 of e, floor_from U g og (after_leg U h x) xs v.2 (served_later x xs g d t), lag_after_leg U h x v.0 v.1, time_when_not U h x xs g d)
 
   pair_from : (h : Head) (xs : List Leg) → Moves h.place xs → T (served xs g) → T (served xs f) → PairLaw U g.start g.end f.end (time_of U h xs g) (time_of U h xs f)
   unfolding served

@@ -16,10 +16,10 @@ use Rattle.runs.specs.Rows.{stop_at}
 use Rattle.runs.specs.Lists.{Detour, WellFormed, bad_entry, first_bad_entry}
 use Rattle.walk.specs.Walk.{head_at, Moves, served, ServesAll, time_of, sum_of}
 use Rattle.walk.specs.Detours.{legs_of}
-use Rattle.runs.proofs.Search.{first-zero}
+use Rattle.runs.proofs.Search.{first_zero}
 use Rattle.runs.proofs.Judged.{GoodRun}
-use Rattle.runs.proofs.Stops.{run_sound, stops-few}
-use Rattle.walk.proofs.Joins.{served_same, time_same, run-sum-joined}
+use Rattle.runs.proofs.Stops.{run_sound, stops_few}
+use Rattle.walk.proofs.Joins.{served_same, time_same, run_sum_joined}
 use Rattle.walk.proofs.Walks.{good_entry, walkable}
 use Rattle.least.specs.Least.{list_sum, LeastForRun}
 use Rattle.least.specs.Wants.{reads_of_file}
@@ -28,7 +28,7 @@ use Rattle.least.proofs.Sums.{W-same, W-add, W-none, W-one}
 use Rattle.least.proofs.Sweeps.{all_served}
 use Rattle.least.proofs.Walks.{serves_each}
 use Rattle.least.proofs.Wanted.{reads_no_more}
-use Rattle.least.proofs.Unbeaten.{Covers, same_table, covers-of-reads, no_movement_beats}
+use Rattle.least.proofs.Unbeaten.{Covers, same_table, covers_of_reads, no_movement_beats}
 
 -- When a movement reads a file of the table, which is when it reads that file's aggregate; and its sum over wants, file by file.
 module _ (starts lengths aggregates : List ℕ) (price : ℕ) (h : Head) (gs : List Leg) where
@@ -68,7 +68,7 @@ pub record OneTape (r r' : Run) : Type 0 where
 run_sum_by_files : (price : ℕ) (h : Head) (gs : List Leg) (r : Run) → GoodRun r
     → sum_of price h gs (stops_of r) ≡ W (λ f. reads_by r f * readAt r.starts r.lengths r.aggregates price h gs f) (suc (length r.starts))
 run_sum_by_files price h gs r good =
-    run-sum-joined price h gs r
+    run_sum_joined price h gs r
     ∙ sum_by_files r.starts r.lengths r.aggregates price h gs (suc (length r.starts)) r.numbers r.counts (λ i l. omega (arith, (good.wants.each i l).in_table))
 
 -- Where a run's reads are those of two others together, so is the sum of whatever movement.
@@ -102,8 +102,8 @@ walk_moves : (r : Run) → GoodRun r → (list : List Detour) → WellFormed (st
 unfolding first_bad_entry
 walk_moves r good list formed =
     (walkable (stops_of r) r.head (run_sound r good) list
-    (λ i l. good_entry (stops_of r) list i (first-zero (bad_entry (stops_of r) list) (length list) formed i l))
-    r.turn (omega (arith, stops-few r good, good.wants.few)) good.start.near good.start.cheap).moves
+    (λ i l. good_entry (stops_of r) list i (first_zero (bad_entry (stops_of r) list) (length list) formed i l))
+    r.turn (omega (arith, stops_few r good, good.wants.few)) good.start.near good.start.cheap).moves
 
 serves_where : (gs : List Leg) (ss : List Stop) → ((i : ℕ) → i < length ss → T (served gs (stop_at ss i))) → ServesAll gs ss
 unfolding ServesAll
@@ -126,7 +126,7 @@ module _ (r r' : Run) (good : GoodRun r) (good' : GoodRun r') (tape : OneTape r 
     (fewer : (f : ℕ) → reads_by r' f ≤ reads_by r f) where
   covers : Covers (stops_of r) (stops_of r')
   covers =
-      covers-of-reads r'.head (stops_of r) (stops_of r') (run_sound r' good') (reads_no_more r r' good good' tape.starts tape.aggregates fewer)
+      covers_of_reads r'.head (stops_of r) (stops_of r') (run_sound r' good') (reads_no_more r r' good good' tape.starts tape.aggregates fewer)
       (rw (tape.starts, tape.lengths, tape.aggregates) (same_table r'.starts r'.lengths r'.aggregates r.numbers r.counts r'.numbers r'.counts))
 
   served_no_better : (list : List Detour) → WellFormed (stops_of r) list → (least : List Detour) → LeastForRun r' least

@@ -10,7 +10,7 @@ use lib.ListN.{length}
 use borrow.Author.Tests.{ltb-true, leb-false, not-false, lt-ltb, lt-leb}
 use Rattle.runs.specs.Run.{Stop}
 use Rattle.runs.specs.Lists.{Detour, wanted, leftmost, bad_alone, bad_after, any_below, entry_of, bad_entry, first_bad_entry, WellFormed}
-use Rattle.runs.proofs.Search.{true_or_false, or_false_both, first-zero, first_all, first_same, any-zero}
+use Rattle.runs.proofs.Search.{true_or_false, or_false_both, first_zero, first_all, first_same, any_zero}
 
 -- "Some entry" is false where each is.
 module _ (bad : ℕ → Bool) where
@@ -115,9 +115,9 @@ module _ (stops : List Stop) (list : List Detour) where
   unfolding first_bad_entry
   rules_of_formed v =
       let t : (i : ℕ) → i < length list → (bad_alone stops (entry_of list i) ≡ false) × (any_below (λ j. bad_after (entry_of list j) (entry_of list i)) i ≡ false)
-      = λ i h. or_false_both _ _ (first-zero (bad_entry stops list) (length list) v i h) in (
+      = λ i h. or_false_both _ _ (first_zero (bad_entry stops list) (length list) v i h) in (
         all_of_index (Alone stops) list (λ i h. (t i h).0),
-        ordered_of_index list (λ j i l h. after_of_test (entry_of list j) (entry_of list i) (any-zero (λ k. bad_after (entry_of list k) (entry_of list i)) i (t i h).1 j l)),
+        ordered_of_index list (λ j i l h. after_of_test (entry_of list j) (entry_of list i) (any_zero (λ k. bad_after (entry_of list k) (entry_of list i)) i (t i h).1 j l)),
       )
 
   pub formed_of_rules : All (Alone stops) list → Ordered list → WellFormed stops list

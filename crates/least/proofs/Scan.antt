@@ -58,8 +58,8 @@ pub record First (f : ℕ → ℕ) (a c k : ℕ) : Type 0 where
   pub before : (d : ℕ) → 0 < k → k ≤ d → d < c → f k < f (suc d)
 
 module _ (f : ℕ → ℕ) (a c k : ℕ) (h : First f a c k) where
-  pub first_skip_here : f 0 ≡ f k → k ≡ 0
-  first_skip_here e = by_cases (dec_lt 0 k) (λ l. omega (arith, h.before_skip l)) (λ n. omega arith)
+  pub first_skip : f 0 ≡ f k → k ≡ 0
+  first_skip e = by_cases (dec_lt 0 k) (λ l. omega (arith, h.before_skip l)) (λ n. omega arith)
 
   -- Where the skip and all choices right of suc d have another value, this one is the one.
   pub first_here : (d : ℕ) → 0 < k → k ≤ suc d → d < c → f (suc d) ≡ f k → k ≡ suc d

@@ -2,7 +2,7 @@
 -- ends; and the walk of a well-formed list ends with a read. Which leg reads a stop, and what that says of its time.
 use Prim.Native.Nat.{ℕ, zero, suc, ◌+◌, ◌-◌, ◌*◌, ◌≤◌, ◌<◌}
 use mathlib.Core.Path.{◌≡◌, refl, sym, ap, ◌∙◌}
-use mathlib.Core.Bool.{true, false, or_true, true≢false}
+use mathlib.Core.Bool.{true, false, or-true, true≢false}
 use mathlib.Core.Logic.{⊎_elim}
 use mathlib.Core.List.{List, [], ◌∷◌, ◌++◌, map}
 use native.Mathlib.Omega.{arith}
@@ -17,11 +17,11 @@ use Rattle.runs.specs.Rows.{stop_at}
 use Rattle.runs.specs.Lists.{Detour, wanted, bad_alone, bad_entry, entry_of, WellFormed, first_bad_entry}
 use Rattle.walk.specs.Walk.{head_at, set_off, after_leg, run_right, walked, reads, served, ServesAll, time_of, leg_from, leg_for}
 use Rattle.walk.specs.Detours.{start_of, leg_of, unread_end, sweep_end, last_sweep, legs_of, full_sweep, full_legs_of}
-use Rattle.runs.proofs.Search.{true_or_false, or_false_both, first-zero}
+use Rattle.runs.proofs.Search.{true_or_false, or_false_both, first_zero}
 use Rattle.runs.proofs.Sound.{Sound, SoundAny, sound_any}
 use Rattle.walk.proofs.Steps.{read_inside}
-use Rattle.walk.proofs.Sweeps.{Unread, unread-or-none, passed, kept}
-use Rattle.least.proofs.Movements.{faced_later, after_clock, time-when-read, time-when-not, read_at}
+use Rattle.walk.proofs.Sweeps.{Unread, unread_or_none, passed, kept}
+use Rattle.least.proofs.Movements.{faced_later, after_clock, time_when_read, time_when_not, read_at}
 use Rattle.least.proofs.Rising.{rises_by_steps}
 
 -- Stops further right end further right.
@@ -38,7 +38,7 @@ tail_rises s ss up i j l h = up (suc i) (suc j) (omega arith) (omega arith)
 
 -- The search for the last unread stop never goes back, and so passes the end of none that is unread.
 module _ (gs : List Leg) where
-  no_sooner : (ss : List Stop) (e : ℕ) → EndsRise ss → ((i : ℕ) → i < length ss → e ≤ (stop_at ss i).end) → e ≤ unread_end gs ss e
+  no_sooner_here : (ss : List Stop) (e : ℕ) → EndsRise ss → ((i : ℕ) → i < length ss → e ≤ (stop_at ss i).end) → e ≤ unread_end gs ss e
   unfolding unread_end
   no_sooner_here [] e up low = omega arith
   no_sooner_here (s ∷ ss) e up low =
@@ -127,7 +127,7 @@ swept_time s ss m ok U i l =
 served_after : (gs hs : List Leg) (s : Stop) → served hs s ≡ true → served (gs ++ hs) s ≡ true
 unfolding served
 served_after [] hs s e = e
-served_after (g ∷ gs) hs s e = rw (served_after gs hs s e, or_true)
+served_after (g ∷ gs) hs s e = rw (served_after gs hs s e, or-true)
 
 served_before : (gs hs : List Leg) (s : Stop) → served gs s ≡ true → served (gs ++ hs) s ≡ true
 unfolding served
@@ -181,10 +181,10 @@ module _ (U : ℕ) (a : Leg) where
   time_last : (h : Head) (gs : List Leg) (s : Stop) → served gs s ≡ false → reads a s ≡ true
       → time_of U h (gs ++ a ∷ []) s ≡ (run_right (set_off U (walked U h gs) a) s.end).clock
   unfolding time_of walked served
-  time_last h [] s f t = time-when-read U h a [] s t
+  time_last h [] s f t = time_when_read U h a [] s t
   time_last h (g ∷ gs) s f t =
       let n = or_false_both _ _ f in
-      time-when-not U h g (gs ++ a ∷ []) s n.0 ∙ time_last (after_leg U h g) gs s n.1 t
+      time_when_not U h g (gs ++ a ∷ []) s n.0 ∙ time_last (after_leg U h g) gs s n.1 t
 
 -- A file right of a place starts right of it; a well-formed list's detours start right of the leftmost stop, so none of them reads it.
 starts_past : (a : ℕ) (ss : List Stop) (f : ℕ) → ((i : ℕ) → i < length ss → a < (stop_at ss i).start) → wanted ss f ≡ true → a < start_of ss f
@@ -235,7 +235,7 @@ first_unread : (s : Stop) (ss : List Stop) (m : ℕ) → Sound (s ∷ ss) m → 
 unfolding first_bad_entry
 first_unread s ss m ok list formed =
     none_reads_first s ss list
-    (λ i l. detour_past_first s ss m ok (entry_of list i) (or_false_both _ _ (first-zero (bad_entry (s ∷ ss) list) (length list) formed i l)).0)
+    (λ i l. detour_past_first s ss m ok (entry_of list i) (or_false_both _ _ (first_zero (bad_entry (s ∷ ss) list) (length list) formed i l)).0)
 
 module _ (s : Stop) (ss : List Stop) (m : ℕ) (ok : SoundAny (s ∷ ss) m) (list : List Detour) (unread : served (map (leg_of (s ∷ ss)) list) s ≡ false) (U : ℕ) where
   gs : List Leg
@@ -261,7 +261,7 @@ module _ (s : Stop) (ss : List Stop) (m : ℕ) (ok : SoundAny (s ∷ ss) m) (lis
       ⊎_elim
       (λ q. read_last 0 (omega arith) unread q)
       (λ u. read_last (suc u.index) (omega (arith, u.within)) u.unread u.is)
-      (unread-or-none gs ss s.end)
+      (unread_or_none gs ss s.end)
 
 pub last_read : (stops : List Stop) (m : ℕ) → Sound stops m → 0 < length stops → (list : List Detour) → WellFormed stops list → (U : ℕ)
     → LastRead U (head_at m) (legs_of stops list) stops
@@ -315,7 +315,7 @@ earlier_leg U s t o h n [] a b l = absurd (true≢false (sym a))
 earlier_leg U s t o h n (g ∷ gs) a b l =
     ⊎_elim
     (λ e. ⊎_elim (λ f. absurd (both e f)) (λ f. first e f) (true_or_false (reads g t)))
-    (λ e. ⊎_elim (λ f. absurd (second e f)) (λ f. omega (arith, time-when-not U h g gs s e, time-when-not U h g gs t f, earlier_leg U s t o (after_leg U h g) (suc n) gs (rw e at a) (rw f at b) (neither e f))) (true_or_false (reads g t)))
+    (λ e. ⊎_elim (λ f. absurd (second e f)) (λ f. omega (arith, time_when_not U h g gs s e, time_when_not U h g gs t f, earlier_leg U s t o (after_leg U h g) (suc n) gs (rw e at a) (rw f at b) (neither e f))) (true_or_false (reads g t)))
     (true_or_false (reads g s))
   where
     both : reads g s ≡ true → reads g t ≡ true → ⊥
@@ -332,4 +332,4 @@ earlier_leg U s t o h n (g ∷ gs) a b l =
 
     first : reads g s ≡ true → reads g t ≡ false → time_of U h (g ∷ gs) s < time_of U h (g ∷ gs) t
     first e f =
-        omega (arith, time-when-read U h g gs s e, time-when-not U h g gs t f, read_later U (after_leg U h g) gs t o (rw f at b), (read_inside g s e).1)
+        omega (arith, time_when_read U h g gs s e, time_when_not U h g gs t f, read_later U (after_leg U h g) gs t o (rw f at b), (read_inside g s e).1)

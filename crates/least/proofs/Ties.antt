@@ -10,8 +10,8 @@ use borrow.Author.Tests.{le-leb, lt-leb}
 use Rattle.least.specs.Least.{Sooner}
 use Rattle.least.proofs.Plan.{Over, start_in}
 use Rattle.least.proofs.Cost.{cost}
-use Rattle.least.proofs.Value.{choice-first, choice-value, choice-skip, value-least-skip, value_least}
-use Rattle.least.proofs.Best.{best_none, best-skip, best-detour, best-over, best-least}
+use Rattle.least.proofs.Value.{choice_first, choice_value, choice_skip, value_least_skip, value_least}
+use Rattle.least.proofs.Best.{best_none, best_skip, best_detour, best_over, best_least}
 use Rattle.least.specs.Recurrence.{Plan, empty, skip, detour, value, candidate, choice, best}
 
 -- The tie rule on plans over the window (a, b].
@@ -169,15 +169,15 @@ module _ (L R C : ℕ → ℕ) (U : ℕ) where
   unfolding cost candidate
   skip_case q a b s h l g e =
       rw
-      (best-skip L R C U a b s h (choice-skip L R C U a b s h (omega (arith, value-least-skip L R C U a b s h))))
-      (skip_not_before q (best L R C U a b (s + C (suc b))) a b (g (omega (arith, value-least-skip L R C U a b s h))))
+      (best_skip L R C U a b s h (choice_skip L R C U a b s h (omega (arith, value_least_skip L R C U a b s h))))
+      (skip_not_before q (best L R C U a b (s + C (suc b))) a b (g (omega (arith, value_least_skip L R C U a b s h))))
 
   -- The choice made is not after the detour's, since that one attains the value.
   choice_not_after : (a b s d : ℕ) → a ≤ b → d ≤ b → candidate L R C U (value L R C U) a b s (suc d) ≡ value L R C U a (suc b) s → 0 < choice L R C U a b s → suc d ≤ choice L R C U a b s
   choice_not_after a b s d h l e p =
       by_cases
       (dec_le (choice L R C U a b s) d)
-      (λ m. absurd (omega (arith, choice-value L R C U a b s h, (choice-first L R C U a b s h).before d p m (omega arith))))
+      (λ m. absurd (omega (arith, choice_value L R C U a b s h, (choice_first L R C U a b s h).before d p m (omega arith))))
       (λ n. omega arith)
 
   detour_case :
@@ -193,12 +193,12 @@ module _ (L R C : ℕ → ℕ) (U : ℕ) where
       go : (k : ℕ) → choice L R C U a b s ≡ k → NotBefore (detour d q r) (best L R C U a (suc b) s) a (suc b)
       go zero c =
           rw
-          (best-skip L R C U a b s (omega arith) c)
-          (inr (skip_before_detour d (best L R C U a b (s + C (suc b))) q r a b (omega arith) l (best-over L R C U a b (s + C (suc b)))))
+          (best_skip L R C U a b s (omega arith) c)
+          (inr (skip_before_detour d (best L R C U a b (s + C (suc b))) q r a b (omega arith) l (best_over L R C U a b (s + C (suc b)))))
       go (suc d') c =
-          let w : (a < suc d') × (suc d' ≤ suc b) = rw c at ((choice-first L R C U a b s (omega arith)).within (omega arith)) in
+          let w : (a < suc d') × (suc d' ≤ suc b) = rw c at ((choice_first L R C U a b s (omega arith)).within (omega arith)) in
           rw
-          (best-detour L R C U a b s d' (omega arith) c)
+          (best_detour L R C U a b s d' (omega arith) c)
           (by_cases
           (dec_lt d d')
           (λ m. inr (later_start_first d' d (best L R C U (suc d') b (s + C (suc b))) (best L R C U a d' s) q r a b (omega arith) (omega arith) m))
@@ -214,8 +214,8 @@ module _ (L R C : ℕ → ℕ) (U : ℕ) where
   unfolding cost candidate
   detour_parts d q r a b s o e =
       let x = value_least L R C U a b s d o.0 o.1 in
-      let y = best-least L R C U q (suc d) b (s + C (suc b)) o.2 in
-      let z = best-least L R C U r a d s o.3 in
+      let y = best_least L R C U q (suc d) b (s + C (suc b)) o.2 in
+      let z = best_least L R C U r a d s o.3 in
       omega arith
 
   -- A plan that costs the value is `best`, or `best` comes first.
@@ -223,7 +223,7 @@ module _ (L R C : ℕ → ℕ) (U : ℕ) where
   best_first empty a b s o e = inl (sym (best_none L R C U a b s o))
   best_first (skip q) a zero s o e = absurd o
   best_first (skip q) a (suc b) s o e =
-      skip_case q a b s o.0 (best-least L R C U q a b (s + C (suc b)) o.1) (best_first q a b (s + C (suc b)) o.1) e
+      skip_case q a b s o.0 (best_least L R C U q a b (s + C (suc b)) o.1) (best_first q a b (s + C (suc b)) o.1) e
   best_first (detour d q r) a zero s o e = absurd o
   best_first (detour d q r) a (suc b) s o e =
       let f = detour_parts d q r a b s o e in

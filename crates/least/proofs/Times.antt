@@ -19,8 +19,8 @@ module _ (L R : ℕ → ℕ) (n : ℕ) (spaced : Spaced L R n) where
   pub starts_rise : (i j : ℕ) → i ≤ j → j ≤ n → L i ≤ L j
   starts_rise = rises_weakly L n spaced.starts
 
-  pub ends_rise_here : Rises R n
-  ends_rise_here = rises_by_steps R n spaced.ends
+  pub ends_rise : Rises R n
+  ends_rise = rises_by_steps R n spaced.ends
 
   -- The subtraction in the time of a leg is not cut off, for a lag that is right of its start.
   pub leg_time_exact : (U y a i : ℕ) → L a ≤ y → a ≤ i → i ≤ n → legTime L R U y a i + 2 * L a ≡ y + (U + R i)

@@ -17,27 +17,27 @@ use Rattle.walk.specs.Walk.{head_at, Moves, ServesAll, time_of, sum_of}
 use Rattle.runs.specs.Lists.{Detour}
 use Rattle.runs.proofs.Sound.{Sound, SoundAny, sound_any}
 use Rattle.runs.proofs.Joined.{Places, Alike, by_name, join_none, join_same, join_other}
-use Rattle.runs.proofs.Stops.{stops-agree}
+use Rattle.runs.proofs.Stops.{stops_agree}
 use Rattle.least.specs.Least.{list_sum, LeastFor}
 use Rattle.least.specs.Wants.{reads_of}
 use Rattle.least.specs.Recurrence.{W, file_at, left_at, right_at, count_at, least_list}
-use Rattle.least.proofs.Rising.{Rises, index-order}
+use Rattle.least.proofs.Rising.{Rises, index_order}
 use Rattle.least.proofs.Sums.{W-below, W-part}
-use Rattle.least.proofs.Feasible.{Feasible, InTime, plan-in-time, feasible_of_movement, feasible-part, feasible-below}
+use Rattle.least.proofs.Feasible.{Feasible, InTime, plan_in_time, feasible_of_movement, feasible_part, feasible_below}
 use Rattle.least.proofs.Times.{planTime}
 use Rattle.least.proofs.Walks.{any_spaced, by_file, sum_by_index, serves_each}
-use Rattle.least.proofs.Lists.{numbers-rise}
-use Rattle.least.proofs.LeastList.{least_list_some, chosen-lowest, least_list_lem}
+use Rattle.least.proofs.Lists.{numbers_rise}
+use Rattle.least.proofs.LeastList.{least_list_some, chosen_lowest, least_list_lem}
 
 -- The sum of the table's list is no larger than any feasible times make it: some plan reads every stop no later.
 feasible_sum : (U m n : ℕ) (stops : List Stop) (t : ℕ → ℕ) → SoundAny stops m → length stops ≡ suc n → Feasible m U (left_at stops) (right_at stops) n t
     → list_sum U m stops (least_list U stops) ≤ W (λ i. count_at stops i * t i) (length stops)
 feasible_sum U m n stops t ok size v =
-    let w : InTime m U (left_at stops) (right_at stops) n t = plan-in-time m U (left_at stops) (right_at stops) n t (any_spaced stops m n ok size) v in
+    let w : InTime m U (left_at stops) (right_at stops) n t = plan_in_time m U (left_at stops) (right_at stops) n t (any_spaced stops m n ok size) v in
     rw (least_list_some U n stops size, size)
     (omega (
       arith,
-      chosen-lowest m n stops ok size U w.plan w.over,
+      chosen_lowest m n stops ok size U w.plan w.over,
       W-below
           (λ i. count_at stops i * planTime (left_at stops) (right_at stops) U w.plan 0 n m i)
           (λ i. count_at stops i * t i)
@@ -60,13 +60,13 @@ module _ (U m U' m' n n' : ℕ) (stops stops' : List Stop) (ok : SoundAny stops 
   -- Files rise in both lists, so the stops of the second stand in the first in their order.
   index_rises : Rises covers.index n'
   index_rises i j h l =
-      index-order (file_at stops) n (numbers-rise m n stops ok size) (covers.index i) (covers.index j) (omega (arith, covers.within i (omega arith)))
-      (omega (arith, covers.files i (omega arith), covers.files j (omega arith), numbers-rise m' n' stops' ok' size' i j h l))
+      index_order (file_at stops) n (numbers_rise m n stops ok size) (covers.index i) (covers.index j) (omega (arith, covers.within i (omega arith)))
+      (omega (arith, covers.files i (omega arith), covers.files j (omega arith), numbers_rise m' n' stops' ok' size' i j h l))
 
   still_feasible : m' ≤ m → U' ≤ U → Feasible m' U' (left_at stops') (right_at stops') n' (λ i. t (covers.index i))
   still_feasible hm hU =
-      feasible-below m U (left_at stops') (right_at stops') n' (λ i. t (covers.index i))
-      (feasible-part m U (left_at stops) (right_at stops) n t feasible
+      feasible_below m U (left_at stops') (right_at stops') n' (λ i. t (covers.index i))
+      (feasible_part m U (left_at stops) (right_at stops) n t feasible
       (left_at stops') (right_at stops') covers.index n' index_rises
       (λ i h. (omega (arith, covers.within i (omega arith)), covers.starts i (omega arith), covers.ends i (omega arith))))
       m' U' hm hU
@@ -197,14 +197,14 @@ module _ (starts lengths aggregates : List ℕ) where
   -- Two of one name are of one aggregate.
   same_places : (s t : Stop) → OfTable s → OfTable t → s.file ≡ t.file → Places s t
   same_places s t o p e =
-      let same = stops-agree starts lengths aggregates o.file 0 p.file 0 (sym o.alike.name ∙ e ∙ p.alike.name) in
+      let same = stops_agree starts lengths aggregates o.file 0 p.file 0 (sym o.alike.name ∙ e ∙ p.alike.name) in
       record {
         start = o.alike.places.start ∙ same.start ∙ sym p.alike.places.start;
         end = o.alike.places.end ∙ same.end ∙ sym p.alike.places.end;
       }
 
-  pub same_table_here : (ns cs ns' cs' : List ℕ) → SameTable (joined (want_stops starts lengths aggregates ns cs)) (joined (want_stops starts lengths aggregates ns' cs'))
-  same_table_here ns cs ns' cs' = record { starts = λ i i' h h' e. (places i i' h h' e).start; ends = λ i i' h h' e. (places i i' h h' e).end }
+  pub same_table : (ns cs ns' cs' : List ℕ) → SameTable (joined (want_stops starts lengths aggregates ns cs)) (joined (want_stops starts lengths aggregates ns' cs'))
+  same_table ns cs ns' cs' = record { starts = λ i i' h h' e. (places i i' h h' e).start; ends = λ i i' h h' e. (places i i' h h' e).end }
     where
       of : (ms ds : List ℕ) (i : ℕ) → i < length (joined (want_stops starts lengths aggregates ms ds)) → OfTable (stop_at (joined (want_stops starts lengths aggregates ms ds)) i)
       of ms ds = of_table_at (joined (want_stops starts lengths aggregates ms ds)) (joined_of_table (want_stops starts lengths aggregates ms ds) (wants_of_table ms ds))

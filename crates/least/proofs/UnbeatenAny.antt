@@ -18,17 +18,17 @@ use Rattle.runs.proofs.Sound.{Sound}
 use Rattle.runs.proofs.AnyHead.{smaller_is, pulled_length}
 use Rattle.walk.specs.declared.Leg.{Leg}
 use Rattle.walk.specs.Walk.{head_at, Moves, served, ServesAll, time_of, sum_of}
-use Rattle.walk.proofs.Pulled.{list-sum-pulled}
+use Rattle.walk.proofs.Pulled.{list_sum_pulled}
 use Rattle.least.specs.Recurrence.{W, left_at, right_at, count_at, least_list}
 use Rattle.least.specs.AnyHead.{list_sum_any, LeastAnyFor}
-use Rattle.least.proofs.Rising.{rises-not-strictly}
+use Rattle.least.proofs.Rising.{rises_not_strictly}
 use Rattle.least.proofs.Sums.{W-below}
-use Rattle.least.proofs.Times.{starts-rise, ends_rise}
-use Rattle.least.proofs.Movements.{PairLaw, served_inside, passed_first, floor-of-movement, pair-of-movement, turn_of_movement}
+use Rattle.least.proofs.Times.{starts_rise, ends_rise}
+use Rattle.least.proofs.Movements.{PairLaw, served_inside, passed_first, floor_of_movement, pair_of_movement, turn_of_movement}
 use Rattle.least.proofs.Feasible.{Feasible}
 use Rattle.least.proofs.Walks.{sound_spaced, sum_by_index, serves_each}
-use Rattle.least.proofs.LeastAny.{pulled-file, pulled-left, pulled-right, pulled-count, pulled-sound, least_any}
-use Rattle.least.proofs.Unbeaten.{Covers, covered-sum}
+use Rattle.least.proofs.LeastAny.{pulled_file, pulled_left, pulled_right, pulled_count, pulled_sound, least_any}
+use Rattle.least.proofs.Unbeaten.{Covers, covered_sum}
 
 -- What a movement from m must do for a stop: read it, or where it starts at or right of the head only come to its end.
 abbrev passing : ℕ → Stop → Stop
@@ -72,7 +72,7 @@ module _ (U m : ℕ) (gs : List Leg) (moves : Moves m gs) where
         let is = passing_is m s o in
         by_cases
         (dec_lt s.start m)
-        (λ h. omega (arith, floor-of-movement U m gs moves (passing m s) is.short pass_served, is.left h, (smaller_is s.start m).same (omega arith)))
+        (λ h. omega (arith, floor_of_movement U m gs moves (passing m s) is.short pass_served, is.left h, (smaller_is s.start m).same (omega arith)))
         (λ h. omega (arith, turn_of_movement U m gs moves (passing m s) is.short pass_served, (smaller_is s.start m).other (omega arith)))
 
   -- Of two stops that start at or right of the head the left one is passed first.
@@ -86,7 +86,7 @@ module _ (U m : ℕ) (gs : List Leg) (moves : Moves m gs) where
       (dec_lt g.start m)
       (λ h.
       let e : smaller g.start m ≡ (passing m g).start = (smaller_is g.start m).same (omega arith) ∙ sym (is.left h) in
-      rw e (pair-of-movement U m gs moves (passing m g) (passing m f) is.short far.short (pass_served g og tg) (pass_served f of tf)))
+      rw e (pair_of_movement U m gs moves (passing m g) (passing m f) is.short far.short (pass_served g og tg) (pass_served f of tf)))
       (λ h.
       inl (passed_first U (passing m g) (passing m f) is.short far.short ends (head_at m) gs moves (pass_served f of tf)
       (inr (omega (arith, is.right (omega arith)), omega (arith, is.right (omega arith))))))
@@ -106,12 +106,12 @@ module _ (U m M n : ℕ) (stops : List Stop) (ok : Sound stops M) (size : length
   passes_feasible =
       record {
         floor = λ i h.
-            rw (pulled-left m stops i (omega arith), pulled-right m stops i (omega arith)) (pass_floor U m gs moves (stop_at stops i) (long i h) (all i h));
+            rw (pulled_left m stops i (omega arith), pulled_right m stops i (omega arith)) (pass_floor U m gs moves (stop_at stops i) (long i h) (all i h));
         pair = λ i j l h.
-            rw (pulled-left m stops i (omega arith), pulled-right m stops i (omega arith), pulled-right m stops j (omega arith))
+            rw (pulled_left m stops i (omega arith), pulled_right m stops i (omega arith), pulled_right m stops j (omega arith))
             (pass_pair U m gs moves (stop_at stops i) (stop_at stops j) (long i (omega arith)) (long j h) (all i (omega arith)) (all j h)
-            (starts-rise (left_at stops) (right_at stops) n (sound_spaced stops M n ok size) i j (omega arith) h)
-            (rises-not-strictly (right_at stops) n (ends_rise (left_at stops) (right_at stops) n (sound_spaced stops M n ok size)) i j (omega arith) h));
+            (starts_rise (left_at stops) (right_at stops) n (sound_spaced stops M n ok size) i j (omega arith) h)
+            (rises_not_strictly (right_at stops) n (ends_rise (left_at stops) (right_at stops) n (sound_spaced stops M n ok size)) i j (omega arith) h));
       }
 
   -- They make no larger a sum than the movement's.
@@ -125,7 +125,7 @@ module _ (U m M n : ℕ) (stops : List Stop) (ok : Sound stops M) (size : length
             (λ i. count_at (pulled m stops) i * passes i)
             (λ i. count_at stops i * time_of U (head_at m) gs (stop_at stops i))
             (length stops)
-            (λ i h. rw (pulled-count m stops i h) (mul-le-mul_left (count_at stops i) (pass_no_later U m gs moves (stop_at stops i) (long i (omega arith)) (all i (omega arith))))),
+            (λ i h. rw (pulled_count m stops i h) (mul-le-mul_left (count_at stops i) (pass_no_later U m gs moves (stop_at stops i) (long i (omega arith)) (all i (omega arith))))),
         sum_by_index U (head_at m) gs stops,
       ))
 
@@ -135,12 +135,12 @@ pulled_covers m stops stops' c =
     record {
       index = c.index;
       within = λ i l. omega (arith, c.within i (fits i l), pulled_length m stops);
-      files = λ i l. pulled-file m stops (c.index i) (c.within i (fits i l)) ∙ c.files i (fits i l) ∙ sym (pulled-file m stops' i (fits i l));
+      files = λ i l. pulled_file m stops (c.index i) (c.within i (fits i l)) ∙ c.files i (fits i l) ∙ sym (pulled_file m stops' i (fits i l));
       starts = λ i l.
-          pulled-left m stops (c.index i) (c.within i (fits i l)) ∙ ap (λ x. smaller x m) (c.starts i (fits i l)) ∙ sym (pulled-left m stops' i (fits i l));
-      ends = λ i l. pulled-right m stops (c.index i) (c.within i (fits i l)) ∙ c.ends i (fits i l) ∙ sym (pulled-right m stops' i (fits i l));
+          pulled_left m stops (c.index i) (c.within i (fits i l)) ∙ ap (λ x. smaller x m) (c.starts i (fits i l)) ∙ sym (pulled_left m stops' i (fits i l));
+      ends = λ i l. pulled_right m stops (c.index i) (c.within i (fits i l)) ∙ c.ends i (fits i l) ∙ sym (pulled_right m stops' i (fits i l));
       counts = λ i l.
-          omega (arith, pulled-count m stops (c.index i) (c.within i (fits i l)), c.counts i (fits i l), pulled-count m stops' i (fits i l));
+          omega (arith, pulled_count m stops (c.index i) (c.within i (fits i l)), c.counts i (fits i l), pulled_count m stops' i (fits i l));
     }
   where
     fits : (i : ℕ) → i < length (pulled m stops') → i < length stops'
@@ -156,8 +156,8 @@ some_unbeaten_any U U' m M M' n n' stops stops' ok ok' size size' hU covers gs m
     omega (
       arith,
       least.smallest (least_list U' (pulled m stops')) (least_any U' m M' stops' ok').formed,
-      list-sum-pulled m U' (head_at m) stops' (least_list U' (pulled m stops')),
-      covered-sum U m U' m n n' (pulled m stops) (pulled m stops') (pulled-sound m M stops ok) (pulled-sound m M' stops' ok')
+      list_sum_pulled m U' (head_at m) stops' (least_list U' (pulled m stops')),
+      covered_sum U m U' m n n' (pulled m stops) (pulled m stops') (pulled_sound m M stops ok) (pulled_sound m M' stops' ok')
           (pulled_length m stops ∙ size) (pulled_length m stops' ∙ size') (pulled_covers m stops stops' covers)
           (passes U m M n stops ok size gs moves serves) (passes_feasible U m M n stops ok size gs moves serves) (le_refl m) hU,
       passes_sum U m M n stops ok size gs moves serves,

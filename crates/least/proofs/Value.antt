@@ -7,9 +7,9 @@ use mathlib.Core.Bool.{cond}
 use mathlib.Core.Logic.{◌≢◌}
 use lib.Dec.{leb}
 use borrow.Author.Tests.{le-leb, lt-leb}
-use Rattle.least.proofs.Columns.{Agree, filled-first, filled_next}
+use Rattle.least.proofs.Columns.{Agree, filled_first, filled_next}
 use Rattle.least.specs.Recurrence.{CellsOf, filled, early, wait, lowest, scan, next, choice, candidate, value, Cells}
-use Rattle.least.proofs.Scan.{lowest_same, lowest_scan, First, scan_all, first_skip, first-here}
+use Rattle.least.proofs.Scan.{lowest_same, lowest_scan, First, scan_all, first_skip, first_here}
 
 module _ (L R C : ℕ → ℕ) (U : ℕ) where
   candidate_same : (E F : Cells) (a b s k : ℕ) → k ≤ suc b → Agree E F b → candidate L R C U E a b s k ≡ candidate L R C U F a b s k
@@ -37,7 +37,7 @@ module _ (L R C : ℕ → ℕ) (U : ℕ) where
 
   pub value_none : (a b s : ℕ) → b ≤ a → value L R C U a b s ≡ 0
   unfolding next value
-  value_none a zero s h = filled-first 0 (next L R C U) next_first next_same_here a s
+  value_none a zero s h = filled_first 0 (next L R C U) next_first next_same_here a s
   value_none a (suc b) s h = value_next a b s ∙ rw (lt-leb a b h)
 
   pub value_step : (a b s : ℕ) → a ≤ b → value L R C U a (suc b) s ≡ lowest (candidate L R C U (value L R C U) a b s) a (suc b) (candidate L R C U (value L R C U) a b s 0)
@@ -56,16 +56,16 @@ module _ (L R C : ℕ → ℕ) (U : ℕ) where
   unfolding candidate
   value_least_skip a b s h = omega (arith, choice_value a b s h, (choice_first a b s h).least_skip)
 
-  pub value_least_here : (a b s d : ℕ) → a ≤ d → d ≤ b → value L R C U a (suc b) s ≤ wait L R C U (suc d) (suc b) s + early L C (suc d) (suc b) + value L R C U (suc d) b (s + C (suc b)) + value L R C U a d s
+  pub value_least : (a b s d : ℕ) → a ≤ d → d ≤ b → value L R C U a (suc b) s ≤ wait L R C U (suc d) (suc b) s + early L C (suc d) (suc b) + value L R C U (suc d) b (s + C (suc b)) + value L R C U a d s
   unfolding candidate
-  value_least_here a b s d h l = omega (arith, choice_value a b s (omega arith), (choice_first a b s (omega arith)).least d h (omega arith))
+  value_least a b s d h l = omega (arith, choice_value a b s (omega arith), (choice_first a b s (omega arith)).least d h (omega arith))
 
   -- What code that looks for the choice L R C U in the table goes by: test the skip, then suc b, b, … as long as the candidate L R C U is not the value L R C U.
   pub choice_skip : (a b s : ℕ) → a ≤ b → candidate L R C U (value L R C U) a b s 0 ≡ value L R C U a (suc b) s → choice L R C U a b s ≡ 0
   choice_skip a b s h e = first_skip (candidate L R C U (value L R C U) a b s) a (suc b) (choice L R C U a b s) (choice_first a b s h) (e ∙ sym (choice_value a b s h))
 
   pub choice_here : (a b s d : ℕ) → a ≤ b → d ≤ b → 0 < choice L R C U a b s → choice L R C U a b s ≤ suc d → candidate L R C U (value L R C U) a b s (suc d) ≡ value L R C U a (suc b) s → choice L R C U a b s ≡ suc d
-  choice_here a b s d h l p q e = first-here (candidate L R C U (value L R C U) a b s) a (suc b) (choice L R C U a b s) (choice_first a b s h) d p q (omega arith) (e ∙ sym (choice_value a b s h))
+  choice_here a b s d h l p q e = first_here (candidate L R C U (value L R C U) a b s) a (suc b) (choice L R C U a b s) (choice_first a b s h) d p q (omega arith) (e ∙ sym (choice_value a b s h))
 
   pub choice_not_here : (a b s k : ℕ) → a ≤ b → (candidate L R C U (value L R C U) a b s k ≡ value L R C U a (suc b) s → ⊥) → choice L R C U a b s ≢ k
   choice_not_here a b s k h n e = n (ap (candidate L R C U (value L R C U) a b s) (sym e) ∙ choice_value a b s h)

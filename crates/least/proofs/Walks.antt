@@ -24,12 +24,12 @@ use Rattle.runs.proofs.Sound.{Sound, SoundAny, sound_any}
 use Rattle.least.specs.Wants.{reads_of}
 use Rattle.least.proofs.Plan.{Over, Owned, owned_all, lagAfter, timeIn}
 use Rattle.least.proofs.Identity.{runSum}
-use Rattle.walk.proofs.Steps.{lag_of, read_inside, lag-after-leg, time-in-leg}
-use Rattle.least.proofs.Movements.{time-when-read, time-when-not}
-use Rattle.least.proofs.Rising.{rises_by_steps, rises-not-strictly}
+use Rattle.walk.proofs.Steps.{lag_of, read_inside, lag_after_leg, time_in_leg}
+use Rattle.least.proofs.Movements.{time_when_read, time_when_not}
+use Rattle.least.proofs.Rising.{rises_by_steps, rises_not_strictly}
 use Rattle.least.proofs.Sums.{W-front, W-same}
 use Rattle.least.proofs.Sweeps.{times_stay_any}
-use Rattle.least.proofs.Times.{Spaced, starts-rise, ends_rise, planTime, unread-left, unread-right, time-in-inner, time-in-rest}
+use Rattle.least.proofs.Times.{Spaced, starts_rise, ends_rise, planTime, unread_left, unread_right, time_in_inner, time_in_rest}
 use Rattle.least.specs.Recurrence.{Plan, empty, skip, detour, plan_detours, trip, W, file_at, left_at, right_at, count_at}
 
 pub any_spaced : (stops : List Stop) (m n : ℕ) → SoundAny stops m → length stops ≡ suc n → Spaced (left_at stops) (right_at stops) n
@@ -69,11 +69,11 @@ time_by_lag U s o h (g ∷ gs) v =
     ⊎_elim
     (λ e.
     let i : (g.left ≤ s.start) × (s.end ≤ g.right) = read_inside g s e in
-    omega (arith, time-when-read U h g gs s e, by_lag_read U (lag_of U h) g gs s e, time-in-leg U h g s v.0 (omega arith)))
+    omega (arith, time_when_read U h g gs s e, by_lag_read U (lag_of U h) g gs s e, time_in_leg U h g s v.0 (omega arith)))
     (λ e.
-    time-when-not U h g gs s e
+    time_when_not U h g gs s e
     ∙ time_by_lag U s o (after_leg U h g) gs v.2
-    ∙ ap (λ y. time_by U y gs s) (lag-after-leg U h g v.0 v.1)
+    ∙ ap (λ y. time_by U y gs s) (lag_after_leg U h g v.0 v.1)
     ∙ sym (by_lag_not U (lag_of U h) g gs s e))
     (true_or_false (reads g s))
 
@@ -93,12 +93,12 @@ module _ (L R : ℕ → ℕ) (n : ℕ) (spaced : Spaced L R n) where
   moves_of_plan empty a b P gs o hn ha hb next = next P ha
   moves_of_plan (skip p) a zero P gs o hn ha hb next = absurd o
   moves_of_plan (skip p) a (suc b) P gs o hn ha hb next =
-      moves_of_plan p a b P gs o.1 (omega arith) ha (omega (arith, starts-rise L R n spaced b (suc b) (omega arith) hn)) next
+      moves_of_plan p a b P gs o.1 (omega arith) ha (omega (arith, starts_rise L R n spaced b (suc b) (omega arith) hn)) next
   moves_of_plan (detour d inner rest) a zero P gs o hn ha hb next = absurd o
   moves_of_plan (detour d inner rest) a (suc b) P gs o hn ha hb next =
-      let low : L (suc d) ≤ L (suc b) = starts-rise L R n spaced (suc d) (suc b) (omega arith) hn in
+      let low : L (suc d) ≤ L (suc b) = starts_rise L R n spaced (suc d) (suc b) (omega arith) hn in
       let lows : (L a ≤ L (suc b)) × (L d ≤ L (suc b)) × (L b ≤ L (suc b))
-      = (starts-rise L R n spaced a (suc b) (omega arith) hn, starts-rise L R n spaced d (suc b) (omega arith) hn, starts-rise L R n spaced b (suc b) (omega arith) hn) in
+      = (starts_rise L R n spaced a (suc b) (omega arith) hn, starts_rise L R n spaced d (suc b) (omega arith) hn, starts_rise L R n spaced b (suc b) (omega arith) hn) in
       let long : L (suc b) < R (suc b) = spaced.extends (suc b) hn in
       rw (append_assoc (legs_in L R inner b) (record { left = L (suc d); right = R (suc b) } ∷ legs_in L R rest d) gs)
       (moves_of_plan inner (suc d) b P (record { left = L (suc d); right = R (suc b) } ∷ (legs_in L R rest d ++ gs)) o.2 (omega arith) (omega arith) (omega arith)
@@ -106,18 +106,18 @@ module _ (L R : ℕ → ℕ) (n : ℕ) (spaced : Spaced L R n) where
 
 module _ (U : ℕ) (L R : ℕ → ℕ) (n : ℕ) (spaced : Spaced L R n) (s : Stop) (j : ℕ) (hj : j ≤ n) (l : s.start ≡ L j) (r : s.end ≡ R j) where
   end_inside : (b : ℕ) → j ≤ b → b ≤ n → s.end ≤ R b
-  end_inside b hb hn = omega (arith, rises-not-strictly R n (ends_rise L R n spaced) j b hb hn)
+  end_inside b hb hn = omega (arith, rises_not_strictly R n (ends_rise L R n spaced) j b hb hn)
 
   -- A leg from stop c to stop b reads the stops c … b and none right of them; and none left of them where the stop before c starts left of c.
   leg_reads : (c b : ℕ) → c ≤ j → j ≤ b → b ≤ n → reads (record { left = L c; right = R b }) s ≡ true
-  leg_reads c b hc hb hn = rw (le-leb (L c) s.start (omega (arith, starts-rise L R n spaced c j hc hj)), le-leb s.end (R b) (end_inside b hb hn))
+  leg_reads c b hc hb hn = rw (le-leb (L c) s.start (omega (arith, starts_rise L R n spaced c j hc hj)), le-leb s.end (R b) (end_inside b hb hn))
 
   leg_passes_left : (d b : ℕ) → j ≤ d → suc d ≤ n → L d < L (suc d) → reads (record { left = L (suc d); right = R b }) s ≡ false
-  leg_passes_left d b h hn own = rw (lt-leb (L (suc d)) s.start (omega (arith, starts-rise L R n spaced j d h (omega arith))))
+  leg_passes_left d b h hn own = rw (lt-leb (L (suc d)) s.start (omega (arith, starts_rise L R n spaced j d h (omega arith))))
 
   leg_passes_right : (c b : ℕ) → c ≤ j → b < j → reads (record { left = L c; right = R b }) s ≡ false
   leg_passes_right c b hc h =
-      rw (le-leb (L c) s.start (omega (arith, starts-rise L R n spaced c j hc hj)), lt-leb s.end (R b) (omega (arith, ends_rise L R n spaced b j h hj)))
+      rw (le-leb (L c) s.start (omega (arith, starts_rise L R n spaced c j hc hj)), lt-leb s.end (R b) (omega (arith, ends_rise L R n spaced b j h hj)))
 
   -- A detour's leg and what follows it, E being when what follows the plan reads the stop.
   detour_time : (d b y a E : ℕ) (inner rest : Plan) (gs : List Leg) → Over (detour d inner rest) a (suc b) → suc b ≤ n → L d < L (suc d)
@@ -127,21 +127,21 @@ module _ (U : ℕ) (L R : ℕ → ℕ) (n : ℕ) (spaced : Spaced L R n) (s : St
   detour_time d b y a E inner rest gs o hn own ih =
       by_cases (dec_le j d)
       (λ h.
-      unread-left L R U inner (suc d) b y j _ o.2 (omega arith)
+      unread_left L R U inner (suc d) b y j _ o.2 (omega arith)
       ∙ by_lag_not U _ _ gs s (leg_passes_left d (suc b) h (omega arith) own)
       ∙ ih
-      ∙ sym (time-in-rest L R U d b y j E inner rest h))
+      ∙ sym (time_in_rest L R U d b y j E inner rest h))
       (λ h.
       by_cases (dec_le j (suc b))
       (λ i.
       ap (λ x. timeIn L R U inner b y j x) (by_lag_read U _ _ gs s (leg_reads (suc d) (suc b) (omega arith) i hn) ∙ ap (λ x. lagAfter L R U inner b y + U + x - 2 * L (suc d)) r)
-      ∙ sym (time-in-inner L R U d b y j E inner rest (omega arith) i))
+      ∙ sym (time_in_inner L R U d b y j E inner rest (omega arith) i))
       (λ i.
-      unread-right L R U inner (suc d) b y j _ o.2 (omega arith)
+      unread_right L R U inner (suc d) b y j _ o.2 (omega arith)
       ∙ by_lag_not U _ _ gs s (leg_passes_right (suc d) (suc b) (omega arith) (omega arith))
       ∙ ih
-      ∙ unread-right L R U rest a d _ j E o.3 (omega arith)
-      ∙ sym (unread-right L R U (detour d inner rest) a (suc b) y j E o (omega arith))))
+      ∙ unread_right L R U rest a d _ j E o.3 (omega arith)
+      ∙ sym (unread_right L R U (detour d inner rest) a (suc b) y j E o (omega arith))))
 
   -- The legs of a plan, then any others, read the stop when the plan says, or else when the others do.
   time_of_plan : (p : Plan) (a b y : ℕ) (gs : List Leg) → Over p a b → b ≤ n → Owned L p
@@ -234,7 +234,7 @@ module _ (m n : ℕ) (stops : List Stop) (ok : SoundAny stops m) (size : length 
     unfolding sweep
     walk_moves_here =
         let top : left_at stops n < right_at stops n = ok.extends n (omega arith) in
-        let low : left_at stops 0 ≤ left_at stops n = starts-rise (left_at stops) (right_at stops) n spaced 0 n (omega arith) (omega arith) in
+        let low : left_at stops 0 ≤ left_at stops n = starts_rise (left_at stops) (right_at stops) n spaced 0 n (omega arith) (omega arith) in
         let reach : left_at stops n ≤ m = ok.within n (omega arith) in
         rw legs (moves_of_plan (left_at stops) (right_at stops) n spaced p 0 n m (sweep ∷ []) over (omega arith) (omega arith) (omega arith) (λ P' h. (h, omega arith, tt)))
 
@@ -265,9 +265,9 @@ serves_each gs (s ∷ ss) v (suc i) h = serves_each gs ss v.1 i (omega arith)
 
 module _ (m n : ℕ) (stops : List Stop) (ok : SoundAny stops m) (size : length stops ≡ suc n) (p : Plan) (over : Over p 0 n) (own : Owned (left_at stops) p) where
   -- The sum of the walk of a plan's list, by the plan's times.
-  pub walk_sum_here : (U : ℕ)
+  pub walk_sum : (U : ℕ)
       → sum_of U (head_at m) (legs_of stops (plan_detours (file_at stops) p n)) stops ≡ runSum (left_at stops) (right_at stops) (count_at stops) U p n m
-  walk_sum_here U =
+  walk_sum U =
       let gs : List Leg = legs_of stops (plan_detours (file_at stops) p n) in
       sum_by_index U (head_at m) gs stops
       ∙ ap (W (λ i. count_at stops i * time_of U (head_at m) gs (stop_at stops i))) size

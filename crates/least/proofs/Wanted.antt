@@ -13,7 +13,7 @@ use borrow.Author.Tests.{eq-eqb, ne_eqb}
 use Rattle.runs.specs.Run.{Run, Stop, first_file, join_to, joined, want_stops, want_stops_of, stops_of}
 use Rattle.runs.proofs.Judged.{GoodRun}
 use Rattle.runs.proofs.Joined.{Neighbours, Apart, by_name, join_none, join_same, join_other}
-use Rattle.runs.proofs.Stops.{run-strict}
+use Rattle.runs.proofs.Stops.{run_strict}
 use Rattle.least.specs.Wants.{reads_of, reads_of_file}
 use Rattle.least.specs.Recurrence.{W}
 use Rattle.least.proofs.Sums.{W-same, W-below, W-add, W-none, W-one}
@@ -91,7 +91,7 @@ module _ (aggregates : List ℕ) (g : ℕ) where
 -- The reads of a stop of an accepted run are those of its files.
 reads_of_files : (r : Run) → GoodRun r → (g : ℕ) → reads_of (stops_of r) g ≡ W (share r.aggregates g (reads_of_file r.numbers r.counts)) (suc (length r.starts))
 reads_of_files r good g =
-    reads_added (stops_of r) g (run-strict r good).apart
+    reads_added (stops_of r) g (run_strict r good).apart
     ∙ added_joined (want_stops_of r) g
     ∙ added_files r.aggregates g r.starts r.lengths (suc (length r.starts)) r.numbers r.counts (λ i l. omega (arith, (good.wants.each i l).in_table))
 

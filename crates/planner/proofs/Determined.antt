@@ -13,8 +13,8 @@ use Rattle.planner.specs.AnyHead.{PlansAny, PlannedAny, plan_any_verdict, rows_a
 use Rattle.planner.specs.Rows.{Rows}
 
 module _ (r : Run) (before : Rows) (a a' : Answer) (after after' : Rows) where
-  pub planned_once_here : Planned r before a after → Planned r before a' after' → (a ≡ a') × (after ≡ after')
-  planned_once_here p q =
+  pub planned_once : Planned r before a after → Planned r before a' after' → (a ≡ a') × (after ≡ after')
+  planned_once p q =
       let e = least_unique r.turn r.head (stops_of r) p.list q.list p.least q.least in
       (p.says ∙ ap (priced_answer r) e ∙ sym q.says, p.rows ∙ ap (λ l. rows_with r l before) e ∙ sym q.rows)
 
@@ -27,7 +27,7 @@ module _ (r : Run) (before : Rows) (a a' : Answer) (after after' : Rows) where
     where
       go : (b : Bool) → is_refusal (plan_verdict r before).refusal ≡ b → (a ≡ a') × (after ≡ after')
       go true e = refused_once (p.refused e) (q.refused e)
-      go false e = planned_once_here (p.planned e) (q.planned e)
+      go false e = planned_once (p.planned e) (q.planned e)
 
 -- The same for a head anywhere.
 module _ (r : Run) (before : Rows) (a a' : Answer) (after after' : Rows) where

@@ -14,11 +14,11 @@ use Rattle.runs.specs.Lists.{Detour}
 use Rattle.runs.proofs.Sound.{Sound}
 use Rattle.runs.proofs.Stops.{accepted_sound}
 use Rattle.runs.proofs.AnyHead.{judge_any_lem}
-use Rattle.engine_stops.proofs.Table.{joined-stops, joined-accepted, renumbered_at, renumbered_length}
+use Rattle.engine_stops.proofs.Table.{joined_stops, joined_accepted, renumbered_at, renumbered_length}
 use Rattle.least.specs.AnyHead.{LeastAnyFor, LeastAny}
 use Rattle.least.specs.Recurrence.{Plan, empty, skip, detour, plan_detours, file_at, left_at, right_at, count_at, best, best_plan, least_list}
 use Rattle.least.proofs.Plan.{Over}
-use Rattle.least.proofs.Best.{best-over}
+use Rattle.least.proofs.Best.{best_over}
 use Rattle.least.proofs.LeastAny.{least_any, least_any_unique}
 use Rattle.engine_stops.specs.Private.{joined_table, renumbered, entry_named, list_named}
 
@@ -71,7 +71,7 @@ unfolding least_list list_named renumbered
 named_least price [] = refl
 named_least price (s ∷ ss) =
     let size : length (renumbered 2 ss) ≡ length ss = renumbered_length 2 ss in
-    named_detours (s ∷ ss) (best_plan price (s ∷ ss) (length ss)) 0 (length ss) (best-over (left_at (s ∷ ss)) (right_at (s ∷ ss)) (count_at (s ∷ ss)) price 0 (length ss) 0) (omega arith)
+    named_detours (s ∷ ss) (best_plan price (s ∷ ss) (length ss)) 0 (length ss) (best_over (left_at (s ∷ ss)) (right_at (s ∷ ss)) (count_at (s ∷ ss)) price 0 (length ss) 0) (omega arith)
     ∙ ap (λ p. list_named (s ∷ ss) (plan_detours (file_at (renumbered 1 (s ∷ ss))) p (length ss))) (sym (same_plan (s ∷ ss) price (length ss)))
     ∙ ap (λ n. list_named (s ∷ ss) (plan_detours (file_at (renumbered 1 (s ∷ ss))) (best_plan price (renumbered 1 (s ∷ ss)) n) n)) (sym size)
 
@@ -105,7 +105,7 @@ module _ (r : Run) (accepts : refuses (judge_any_of r) ≡ false) where
 
   numbered_sound : Sound (renumbered 1 (stops_of r)) top
   unfolding top
-  numbered_sound = subst (λ ss. Sound ss (lifted r).head) (joined-stops (lifted r) ok) (accepted_sound (joined_table (lifted r)) (joined-accepted (lifted r) ok))
+  numbered_sound = subst (λ ss. Sound ss (lifted r).head) (joined_stops (lifted r) ok) (accepted_sound (joined_table (lifted r)) (joined_accepted (lifted r) ok))
 
   -- The list of the table by first files.
   named_any : least_list r.turn (pulled r.head (stops_of r)) ≡ list_named (stops_of r) (least_list r.turn (pulled r.head (renumbered 1 (stops_of r))))
@@ -116,6 +116,6 @@ module _ (r : Run) (accepts : refuses (judge_any_of r) ≡ false) where
 
   pub least_named : (list : List Detour) → LeastAny (joined_table r) list → LeastAny r (list_named (stops_of r) list)
   least_named list least =
-      let numbered = subst (λ ss. LeastAnyFor r.turn r.head ss list) (joined-stops (lifted r) ok) least in
+      let numbered = subst (λ ss. LeastAnyFor r.turn r.head ss list) (joined_stops (lifted r) ok) least in
       let one = least_any_unique r.turn r.head (renumbered 1 (stops_of r)) list (least_list r.turn (pulled r.head (renumbered 1 (stops_of r)))) numbered (least_any r.turn r.head top (renumbered 1 (stops_of r)) numbered_sound) in
       subst (LeastAnyFor r.turn r.head (stops_of r)) (named_any ∙ ap (list_named (stops_of r)) (sym one)) (least_any r.turn r.head top (stops_of r) sound)

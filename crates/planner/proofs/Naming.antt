@@ -20,15 +20,15 @@ use Rattle.runs.proofs.Sound.{Sound}
 use Rattle.walk.proofs.AnyHead.{any_formed}
 use Rattle.runs.proofs.Stops.{run_sound}
 use Rattle.runs.proofs.AnyHead.{judge_any_lem, accepted_any}
-use Rattle.engine_stops.proofs.Table.{joined-stops, joined-accepted, joined-wants, joined-reads}
-use Rattle.engine_stops.proofs.Renamed.{Within, InTable, formed-within}
+use Rattle.engine_stops.proofs.Table.{joined_stops, joined_accepted, joined_wants, joined_reads}
+use Rattle.engine_stops.proofs.Renamed.{Within, InTable, formed_within}
 use Rattle.engine_table.specs.declared.Listed.{Listed}
 use Rattle.engine_table.specs.Listing.{ListRows, list_rows, Lists, IsListed, NotListed, listing_verdict, short_list_rows, room_size}
 use Rattle.planner.specs.Plan.{room_for}
 use Rattle.planner.specs.Private.{RunInRows, first_file_in, stops_verdict, ListsNamed}
 use Rattle.engine_stops.proofs.Halves.{front, behind, holds_front, entry_in}
 use Rattle.planner.proofs.Joined.{few_stops}
-use Rattle.planner.proofs.Named.{least-named}
+use Rattle.planner.proofs.Named.{least_named}
 use Rattle.engine_stops.specs.Private.{count_up, joined_table, name_of, entry_named, list_named}
 
 -- An answer that says a verdict where that refuses, and accepts where it does not, refuses where the verdict does.
@@ -74,21 +74,21 @@ module _ (r : Run) (accepts : refuses (judge_any_of r) ≡ false) where
   lifted_accepts = rw (judge_any_lem r) at accepts
 
   table_accepted : refuses (judge_any_of (joined_table r)) ≡ false
-  table_accepted = rw (judge_any_lem (joined_table r)) (joined-accepted (lifted r) lifted_accepts)
+  table_accepted = rw (judge_any_lem (joined_table r)) (joined_accepted (lifted r) lifted_accepts)
 
-  few_files : length (joined_table r).starts ≤ most_wants
-  few_files = omega (arith, length-map (stops_of r) (λ s. s.start), few_stops r accepts)
+  few_files_here : length (joined_table r).starts ≤ most_wants
+  few_files_here = omega (arith, length-map (stops_of r) (λ s. s.start), few_stops r accepts)
 
   room_same : room_size (joined_table r) ≡ room_for r
   room_same =
-      ap (λ k. k * k * (total (joined_table r).counts + 1)) (joined-wants (lifted r) lifted_accepts)
-      ∙ ap (λ n. length (stops_of r) * length (stops_of r) * (n + 1)) (joined-reads (lifted r) lifted_accepts)
+      ap (λ k. k * k * (total (joined_table r).counts + 1)) (joined_wants (lifted r) lifted_accepts)
+      ∙ ap (λ n. length (stops_of r) * length (stops_of r) * (n + 1)) (joined_reads (lifted r) lifted_accepts)
 
-  verdict_same : (rows : ListRows) → listing_verdict (joined_table r) rows ≡ stops_verdict r rows
+  verdict_same_here : (rows : ListRows) → listing_verdict (joined_table r) rows ≡ stops_verdict r rows
   unfolding listing_verdict
-  verdict_same rows =
-      rw (le-ltb most_wants (length (joined_table r).starts) few_files) (first_passes (judge_any_of (joined_table r)) (refuse_if (short_list_rows (length (joined_table r).numbers) rows) ShortRow ∷ refuse_if (ltb (length rows.room) (room_size (joined_table r))) ShortRoom ∷ []) table_accepted)
-      ∙ ap (λ k. first_of (refuse_if (short_list_rows k rows) ShortRow ∷ refuse_if (ltb (length rows.room) (room_size (joined_table r))) ShortRoom ∷ [])) (joined-wants (lifted r) lifted_accepts)
+  verdict_same_here rows =
+      rw (le-ltb most_wants (length (joined_table r).starts) few_files_here) (first_passes (judge_any_of (joined_table r)) (refuse_if (short_list_rows (length (joined_table r).numbers) rows) ShortRow ∷ refuse_if (ltb (length rows.room) (room_size (joined_table r))) ShortRoom ∷ []) table_accepted)
+      ∙ ap (λ k. first_of (refuse_if (short_list_rows k rows) ShortRow ∷ refuse_if (ltb (length rows.room) (room_size (joined_table r))) ShortRoom ∷ [])) (joined_wants (lifted r) lifted_accepts)
       ∙ ap (λ n. first_of (refuse_if (short_list_rows (length (stops_of r)) rows) ShortRow ∷ refuse_if (ltb (length rows.room) n) ShortRoom ∷ [])) room_same
 
 module _ (r : Run) (firsts lefts spans reads : List ℕ) (head turn : ℕ) (h : RunInRows r firsts lefts spans reads head turn) where
@@ -111,18 +111,18 @@ module _ (r : Run) (firsts lefts spans reads : List ℕ) (head turn : ℕ) (h : 
     answers : refuses l.verdict ≡ refuses (stops_verdict r before)
     answers =
         told (listing_verdict (joined_table r) before) l.verdict (λ e. ap (λ x. x.verdict) (lists.refused e).says) (λ e. ap (λ x. x.verdict) (lists.listed e).says)
-        ∙ ap refuses (verdict_same r h.accepts before)
+        ∙ ap refuses (verdict_same_here r h.accepts before)
 
     pub named_refused : refuses l.verdict ≡ true → ListsNamed r before l mid
     named_refused e =
         record {
-          refused = λ q. subst (λ v. NotListed v before l mid) (verdict_same r h.accepts before) (lists.refused (ap refuses (verdict_same r h.accepts before) ∙ q));
+          refused = λ q. subst (λ v. NotListed v before l mid) (verdict_same_here r h.accepts before) (lists.refused (ap refuses (verdict_same_here r h.accepts before) ∙ q));
           listed = λ q. absurd (true≢false (sym e ∙ answers ∙ q));
         }
 
     module _ (passes : refuses l.verdict ≡ false) where
       is_listed : IsListed (joined_table r) before l mid
-      is_listed = lists.listed (ap refuses (verdict_same r h.accepts before) ∙ sym answers ∙ passes)
+      is_listed = lists.listed (ap refuses (verdict_same_here r h.accepts before) ∙ sym answers ∙ passes)
 
       n_is : l.detours ≡ length is_listed.list
       n_is = ap (λ x. x.detours) is_listed.says
@@ -133,8 +133,8 @@ module _ (r : Run) (firsts lefts spans reads : List ℕ) (head turn : ℕ) (h : 
       -- Every entry is a file of the joined table.
       within : (i : ℕ) → i < l.detours → InTable (stops_of r) (lifted r).head sound (entry_of is_listed.list i)
       within i b =
-          formed-within (stops_of r) (lifted r).head sound is_listed.list
-          (rw (joined-stops (lifted r) (lifted_accepts r h.accepts)) at (any_formed r.head (stops_of (joined_table r)) is_listed.list is_listed.least.formed)) i (omega (arith, n_is))
+          formed_within (stops_of r) (lifted r).head sound is_listed.list
+          (rw (joined_stops (lifted r) (lifted_accepts r h.accepts)) at (any_formed r.head (stops_of (joined_table r)) is_listed.list is_listed.least.formed)) i (omega (arith, n_is))
 
       pub record Nameable (row : List ℕ) : Type 0 where
         pub long : l.detours ≤ length row
@@ -163,7 +163,7 @@ module _ (r : Run) (firsts lefts spans reads : List ℕ) (head turn : ℕ) (h : 
             listed = λ q.
                 record {
                   list = list_named (stops_of r) is_listed.list;
-                  least = least-named r h.accepts is_listed.list is_listed.least;
+                  least = least_named r h.accepts is_listed.list is_listed.least;
                   says = is_listed.says ∙ ap (λ n. record { verdict = accepted; detours = n }) (sym (named_length (stops_of r) is_listed.list));
                   rows = rows_are (half (λ d. d.from) (λ d. refl) before.froms mid.froms froms froms-are (ap (λ x. x.froms) is_listed.rows)) (half (λ d. d.to) (λ d. refl) before.tos mid.tos tos tos-are (ap (λ x. x.tos) is_listed.rows)) room_is;
                 };

@@ -43,9 +43,9 @@ module _ (r : Run) (rows : Rows) where
   later = refuse_if (short_rows (length r.numbers) (length (stops_of r)) rows) ShortRow ∷ refuse_if (ltb (length rows.room) (room_for r)) ShortRoom ∷ []
 
   module _ (v : Verdict) (f : Bool) (v-is : v ≡ judge_any_of r) (f-is : f ≡ is_refusal v.refusal) where
-    pub run_refused_here : f ≡ true → (a : Answer) → a ≡ refusal_answer v → PlansAny r rows a rows
+    pub run_refused : f ≡ true → (a : Answer) → a ≡ refusal_answer v → PlansAny r rows a rows
     unfolding plan_any_verdict later
-    run_refused_here e a s = refused_so_here v (v-is ∙ first_refuses (judge_any_of r) later (test_says v-is f-is e)) (sym f-is ∙ e) a s rows refl
+    run_refused e a s = refused_so_here v (v-is ∙ first_refuses (judge_any_of r) later (test_says v-is f-is e)) (sym f-is ∙ e) a s rows refl
 
     pub run_accepted : f ≡ false → is_refusal (judge_any_of r).refusal ≡ false
     run_accepted e = test_says v-is f-is e

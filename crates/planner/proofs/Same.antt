@@ -16,7 +16,7 @@ use Rattle.runs.proofs.Stops.{accepted_sound}
 use Rattle.runs.proofs.AnyHead.{judge_any_same}
 use Rattle.walk.specs.declared.Answer.{Answer}
 use Rattle.walk.specs.Price.{refusal_answer, priced_times, priced_legs}
-use Rattle.walk.proofs.AnyHead.{priced-same, rows_same}
+use Rattle.walk.proofs.AnyHead.{priced_same, rows_same}
 use Rattle.least.proofs.LeastAny.{least_any_same}
 use Rattle.planner.specs.Plan.{Plans, Planned, plan_verdict, short_rows, room_for}
 use Rattle.planner.specs.AnyHead.{PlansAny, PlannedAny, plan_any_verdict}
@@ -32,9 +32,9 @@ module _ (r : Run) (before : Rows) where
   verdict_same e = rw e
 
   -- A run that the judging refuses.
-  pub run_refused_here : (v : Verdict) (f : Bool) → v ≡ judge_of r → f ≡ is_refusal v.refusal → f ≡ true → (a : Answer) → a ≡ refusal_answer v → Plans r before a before
+  pub run_refused : (v : Verdict) (f : Bool) → v ≡ judge_of r → f ≡ is_refusal v.refusal → f ≡ true → (a : Answer) → a ≡ refusal_answer v → Plans r before a before
   unfolding plan_verdict
-  run_refused_here v f v-is f-is e a says =
+  run_refused v f v-is f-is e a says =
       let whole : v ≡ plan_verdict r before = v-is ∙ first_refuses (judge_of r) rest (test_says v-is f-is e) in
       record {
         refused = λ q. record { says = rw whole at says; kept = refl };
@@ -53,7 +53,7 @@ module _ (r : Run) (before : Rows) where
         record {
           list = p.list;
           least = least_any_same r.turn r.head (stops_of r) (accepted_sound r accepts) p.list p.least;
-          says = p.says ∙ priced-same r good p.list;
+          says = p.says ∙ priced_same r good p.list;
           rows = p.rows ∙ rw (ap (λ x. x.times) reads, ap (λ x. x.legs) reads);
         }
 

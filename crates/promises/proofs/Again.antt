@@ -1,7 +1,7 @@
 -- The mended sheet read again, line by line.
 use Prim.Native.Nat.{ℕ, zero, suc, ◌+◌, ◌-◌, ◌^◌, ◌≤◌, ◌<◌}
 use mathlib.Core.Path.{◌≡◌, refl, ap, sym, ◌∙◌}
-use mathlib.Core.Bool.{Bool, true, false, true≢false, not, cond, ◌&&◌, ◌||◌, or_true}
+use mathlib.Core.Bool.{Bool, true, false, true≢false, not, cond, ◌&&◌, ◌||◌, or-true}
 use mathlib.Core.List.{List, [], ◌∷◌, ◌++◌, append_assoc, append-nil}
 use native.Mathlib.Omega.{arith}
 use lib.ListN.{length, take, drop, get_or}
@@ -9,7 +9,7 @@ use lib.Dec.{eqb, ltb}
 use borrow.Author.Tests.{not-false, ltb-true, ltb-false}
 use Rattle.refusals.specs.Refusals.{first_where}
 use Rattle.runs.specs.Run.{most_wants, most_reads}
-use Rattle.runs.proofs.Search.{first_all, first-here, first-zero}
+use Rattle.runs.proofs.Search.{first_all, first_here, first_zero}
 use Rattle.text_bytes.specs.Text.{line_feed, comma, has, before, behind, is_empty, is_number, is_name, is_digit, leading_zero, all_of, starts_with, decimal, value_of}
 use Rattle.text_bytes.proofs.Bytes.{and_true_both, not_empty}
 use Rattle.text_bytes.proofs.Decimals.{decimal_without, decimal_some, decimal_value, decimal_number}
@@ -17,14 +17,14 @@ use Rattle.text_lines.specs.Lines.{line_of, after_lines, line_after, value_text,
 use Rattle.sheet_reader.specs.Lines.{tape_key, head_key, turn_key, rule_key, least_text, files_key, file_key, wants_key, want_key, is_tape_line, is_turn_line, turn_with, empty_turn, is_rule_line, names_sweep}
 use Rattle.sheet_reader.specs.Sheet.{longest_sheet, most_sheet_files, sheet_turn, sheet_turn_with, says_sweep, sheet_files, file_text, unless, first_some}
 use Rattle.text_pages.specs.Printing.{line, number_line, pair_lines}
-use Rattle.sheet_writer.proofs.Reread.{line_first, line_behind_lem, key_begins, key_value, number-back, value-back, pairs-behind, pairs-good, firsts-back, seconds-back}
+use Rattle.sheet_writer.proofs.Reread.{line_first, line_behind_lem, key_begins, key_value, number_back, value_back, pairs_behind, pairs_good, firsts_back, seconds_back}
 use Rattle.sheet_loose.specs.Loose.{loose_files, loose_wants_text, loose_want_text, loose_wants, loose_end, wants_said, price_left_out, first_bad_loose_top, first_bad_loose_below, first_bad_loose, wanted_files, wanted_counts}
 use Rattle.sheet_loose.proofs.Wants.{lines_good, want_lines_good}
 use Rattle.sheet_reader.proofs.Rows.{length_each}
 use Rattle.answer_mend.specs.declared.wants.Fate.TheVariants.{Stays}
 use Rattle.answer_mend.specs.Wants.{sum_below, enter, remaining, reads_in_all, asked_of, reads_of_want, reads_each, fate_of}
 use Rattle.answer_mend.proofs.Counting.{sum_below_lem, asked_within}
-use Rattle.answer_mend.proofs.Texts.{each_long, each_at, few-files}
+use Rattle.answer_mend.proofs.Texts.{each_long, each_at, few_files}
 use Rattle.answer_mend.specs.Mending.{first_lines, sheet_remaining, sheet_reads, mended_text, fate_lines}
 use Rattle.promises.proofs.Copied.{Ended, ended_all, copied_after, copied_line, copied_again}
 
@@ -56,7 +56,7 @@ come_so_many test most n text l good bad = go (ltb n most) refl
     go : (t : Bool) → ltb n most ≡ t → lines_before most (first_where no most) ≡ n
     go true t =
         let m = ltb-true n most t in
-        let found : first_where no most ≡ n + 1 = first-here no n most first (ap not (bad m)) m in
+        let found : first_where no most ≡ n + 1 = first_here no n most first (ap not (bad m)) m in
         let e : n + 1 ≡ suc n = omega arith in
         rw (found, e)
     go false t =
@@ -103,7 +103,7 @@ rule_back = refl
 
 turn_back : (n : ℕ) → n < 2 ^ 64 → is_turn_line (turn_key ++ decimal n) ≡ true
 unfolding is_turn_line
-turn_back n l = rw (key_begins turn_key (decimal n), key_value turn_key (decimal n), decimal_number n l, or_true)
+turn_back n l = rw (key_begins turn_key (decimal n), key_value turn_key (decimal n), decimal_number n l, or-true)
 
 -- A number is below 2 to the 64.
 number_small : (text : List ℕ) → is_number text ≡ true → value_of text < 2 ^ 64
@@ -224,7 +224,7 @@ module _ (sheet : List ℕ) (good : first_bad_loose sheet ≡ 0) (few : length (
   files_small =
       all_at (2 ^ 64) (ltb-true 0 (2 ^ 64) refl) (wanted_files sheet)
       (all_each (2 ^ 64) (λ i. first_in want_key (line_after i (loose_want_text sheet))) (loose_wants sheet)
-      (λ i l. first_small (line_after i (loose_want_text sheet)) (not-false (is_pair_line want_key (line_after i (loose_want_text sheet))) (first-zero (λ j. not (is_pair_line want_key (line_after j (loose_want_text sheet)))) (loose_wants sheet) (want_lines_good sheet) i l))))
+      (λ i l. first_small (line_after i (loose_want_text sheet)) (not-false (is_pair_line want_key (line_after i (loose_want_text sheet))) (first_zero (λ j. not (is_pair_line want_key (line_after j (loose_want_text sheet)))) (loose_wants sheet) (want_lines_good sheet) i l))))
 
   row_small : (i : ℕ) → i < length row → get_or row i 0 < 2 ^ 64
   unfolding sheet_remaining
@@ -238,9 +238,9 @@ module _ (sheet : List ℕ) (good : first_bad_loose sheet ≡ 0) (few : length (
   unfolding wanted_files wanted_counts
   lines_even = length_each (λ i. first_in want_key (line_after i (loose_want_text sheet))) (loose_wants sheet) ∙ sym (length_each (λ i. second_in want_key (line_after i (loose_want_text sheet))) (loose_wants sheet))
 
-  reads_small : (x : ℕ) → reads_of_want (wanted_files sheet) (wanted_counts sheet) x ≤ most_reads
+  reads_small_here : (x : ℕ) → reads_of_want (wanted_files sheet) (wanted_counts sheet) x ≤ most_reads
   unfolding reads_of_want reads_in_all
-  reads_small x =
+  reads_small_here x =
       let below = sum_below_lem (λ i. asked_of x (get_or (wanted_files sheet) i 0) (get_or (wanted_counts sheet) i 0)) (λ i. get_or (wanted_counts sheet) i 0) (λ i. asked_within x (get_or (wanted_files sheet) i 0) (get_or (wanted_counts sheet) i 0)) (length (wanted_files sheet)) in
       omega (arith, below, ap (sum_below (λ i. get_or (wanted_counts sheet) i 0)) lines_even, reads)
 
@@ -249,10 +249,10 @@ module _ (sheet : List ℕ) (good : first_bad_loose sheet ≡ 0) (few : length (
   asked_small i l =
       let is = each_at (wanted_files sheet) (wanted_counts sheet) row i l in
       let big : most_reads < 2 ^ 64 = ltb-true most_reads (2 ^ 64) refl in
-      omega (arith, is, reads_small (get_or row i 0), big)
+      omega (arith, is, reads_small_here (get_or row i 0), big)
 
   few_table : count ≤ most_sheet_files
-  few_table = few-files sheet
+  few_table = few_files sheet
 
   -- Its parts, from the back.
   abbrev P : List ℕ
@@ -345,14 +345,14 @@ module _ (sheet : List ℕ) (good : first_bad_loose sheet ≡ 0) (few : length (
 
   pub files_said : sheet_files (mended_text sheet) ≡ count
   unfolding sheet_files
-  files_said = ap (number_behind files_key) line₄ ∙ value-back files_key count small_count
+  files_said = ap (number_behind files_key) line₄ ∙ value_back files_key count small_count
 
   -- The file lines.
   table_good : (i : ℕ) → i < count → is_triple_line file_key (line_after i (file_text sheet)) ≡ true
   unfolding loose_files first_bad_of
   table_good i l =
       not-false (is_triple_line file_key (line_after i (file_text sheet)))
-      (first-zero (λ j. not (is_triple_line file_key (line_after j (file_text sheet)))) count (lines_good (is_triple_line file_key) most_sheet_files (file_text sheet)) i l)
+      (first_zero (λ j. not (is_triple_line file_key (line_after j (file_text sheet)))) count (lines_good (is_triple_line file_key) most_sheet_files (file_text sheet)) i l)
 
   pub table_ended : Ended count (file_text sheet)
   unfolding is_triple_line
@@ -382,35 +382,35 @@ module _ (sheet : List ℕ) (good : first_bad_loose sheet ≡ 0) (few : length (
   unfolding loose_wants_text
   tail_again = rw (files_again, text₅) text₆
 
-  pub wants_said : wants_said (mended_text sheet) ≡ length row
+  pub wants_said_lem : wants_said (mended_text sheet) ≡ length row
   unfolding wants_said
-  wants_said = ap (λ t. number_behind wants_key (line_of t)) tail_again ∙ ap (number_behind wants_key) (line_first wants_key (decimal (length row)) P plain_wants (flat (length row))) ∙ value-back wants_key (length row) small_wants
+  wants_said = ap (λ t. number_behind wants_key (line_of t)) tail_again ∙ ap (number_behind wants_key) (line_first wants_key (decimal (length row)) P plain_wants (flat (length row))) ∙ value_back wants_key (length row) small_wants
 
   body_again : loose_want_text (mended_text sheet) ≡ P
   unfolding loose_want_text after_lines
   body_again = ap (behind line_feed) tail_again ∙ line_behind_lem wants_key (decimal (length row)) P plain_wants (flat (length row))
 
   pairs_none : first_bad_of (is_pair_line want_key) (length row) P ≡ 0
-  pairs_none = rw (append-nil P) at (pairs-good want_key plain_want [] row asked even row_small asked_small)
+  pairs_none = rw (append-nil P) at (pairs_good want_key plain_want [] row asked even row_small asked_small)
 
   pairs_end : after_lines (length row) P ≡ []
-  pairs_end = rw (append-nil P) at (pairs-behind want_key plain_want [] row asked even)
+  pairs_end = rw (append-nil P) at (pairs_behind want_key plain_want [] row asked even)
 
   pub wants_again : loose_wants (mended_text sheet) ≡ length row
   unfolding loose_wants first_bad_of
   wants_again =
       ap (λ t. lines_before longest_sheet (first_bad_of (is_pair_line want_key) longest_sheet t)) body_again
       ∙ come_so_many (is_pair_line want_key) longest_sheet (length row) P (omega (arith, few))
-      (λ i l. not-false (is_pair_line want_key (line_after i P)) (first-zero (λ j. not (is_pair_line want_key (line_after j P))) (length row) pairs_none i l))
+      (λ i l. not-false (is_pair_line want_key (line_after i P)) (first_zero (λ j. not (is_pair_line want_key (line_after j P))) (length row) pairs_none i l))
       (λ m. ap (λ t. is_pair_line want_key (line_of t)) pairs_end ∙ not_want)
 
   pub named_again : wanted_files (mended_text sheet) ≡ row
   unfolding wanted_files
-  named_again = rw (wants_again, body_again) (rw (append-nil P) at (firsts-back want_key plain_want [] row asked even))
+  named_again = rw (wants_again, body_again) (rw (append-nil P) at (firsts_back want_key plain_want [] row asked even))
 
   pub asked_again : wanted_counts (mended_text sheet) ≡ asked
   unfolding wanted_counts
-  asked_again = rw (wants_again, body_again) (rw (append-nil P) at (seconds-back want_key plain_want [] row asked even))
+  asked_again = rw (wants_again, body_again) (rw (append-nil P) at (seconds_back want_key plain_want [] row asked even))
 
   end_again : loose_end (mended_text sheet) ≡ []
   unfolding loose_end
@@ -422,7 +422,7 @@ module _ (sheet : List ℕ) (good : first_bad_loose sheet ≡ 0) (few : length (
   good_again =
       let turn : is_turn_line (line_after 2 (mended_text sheet)) ≡ true = ap is_turn_line line₂ ∙ turn_back (sheet_turn sheet) price_small in
       let rule : is_rule_line (line_after 3 (mended_text sheet)) ≡ true = ap is_rule_line line₃ ∙ rule_back in
-      let files : is_number_line files_key (line_after 4 (mended_text sheet)) ≡ true = ap (is_number_line files_key) line₄ ∙ number-back files_key count small_count in
+      let files : is_number_line files_key (line_after 4 (mended_text sheet)) ≡ true = ap (is_number_line files_key) line₄ ∙ number_back files_key count small_count in
       let wants : is_number_line wants_key (line_of (loose_wants_text (mended_text sheet))) ≡ true
-      = ap (λ t. is_number_line wants_key (line_of t)) tail_again ∙ ap (is_number_line wants_key) (line_first wants_key (decimal (length row)) P plain_wants (flat (length row))) ∙ number-back wants_key (length row) small_wants in
+      = ap (λ t. is_number_line wants_key (line_of t)) tail_again ∙ ap (is_number_line wants_key) (line_first wants_key (decimal (length row)) P plain_wants (flat (length row))) ∙ number_back wants_key (length row) small_wants in
       rw (line₀, tops.0, line₁, tops.1.0, turn, rule, files, wants, end_again)

@@ -28,24 +28,24 @@ use Rattle.sheet_writer.specs.declared.Written.{Written}
 use Rattle.sheet_writer.specs.Writing.{row_verdict, written_answer, written_row, Handed}
 use Rattle.sheet_writer.specs.RefusalLines.{refused_key, place_key, refusal_text}
 use Rattle.answer_plan.specs.Recall.{run_checks, room_words, verdict_by, recall_verdict}
-use Rattle.answer_plan.proofs.Planned.{handed-bytes, handed-row}
+use Rattle.answer_plan.proofs.Planned.{handed_bytes, handed_row}
 use Rattle.answer_field.specs.Field.{field_checks}
 use Rattle.demands.specs.RefusalTable.{FirstBad, RunApplies, FirstThatApplies, here, later}
 use Rattle.demands.specs.Lines.{LineIsBad, lines_due, Ruled}
 use Rattle.demands.proofs.Tests.{tells_below}
-use Rattle.demands.proofs.Checks.{decides_if, decides_there, decides_reworded, Finds, finds-none, finds-first, first_of_joined, AllRefuse, refused-iff}
+use Rattle.demands.proofs.Checks.{decides_if, decides_there, decides_reworded, Finds, finds_none, finds_first, first_of_joined, AllRefuse, refused_iff}
 use Rattle.demands.proofs.Conditions.{rows_unfit}
-use Rattle.demands.proofs.Judged.{run-finds, table-finds, run_small, want-rows-only}
-use Rattle.demands.proofs.Counted.{has-stops, stops-one}
-use Rattle.demands.proofs.Lines.{tells-sweep}
-use Rattle.demands.proofs.FirstLine.{decides-line}
+use Rattle.demands.proofs.Judged.{run_finds, table_finds, run_small, want_rows_only}
+use Rattle.demands.proofs.Counted.{has_stops, stops_one}
+use Rattle.demands.proofs.Lines.{tells_sweep}
+use Rattle.demands.proofs.FirstLine.{decides_line}
 use Rattle.promises.specs.Answers.{SheetRunApplies, AnswerApplies, too_long, bad_line, retired_rule, run, engine, RoomApplies, short_room, EightApplies, over_eight, room_order, eight_order, two_lines, RefusalByItsLines, LinesHanded, RefusalIsHanded, PrintedByTheTable, PlanByTheTable, FieldByTheTable, BuysByTheTable}
 use Rattle.promises.specs.BuysLines.{FiguresOf}
 use Rattle.promises.specs.PlanLines.{PlanPrinted}
 use Rattle.promises.proofs.BuysLines.{figures_of_lem}
 use Rattle.promises.proofs.PlanLines.{plan_printed}
 use Rattle.promises.proofs.Checks.{put_whole}
-use Rattle.promises.proofs.Lengths.{refusal_short, run_judges, field_judges, run_checks_near, field_checks_near, plan-held, buys-held}
+use Rattle.promises.proofs.Lengths.{refusal_short, run_judges, field_judges, run_checks_near, field_checks_near, plan_held, buys_held}
 
 -- The lines of a refusal.
 regrouped : (a n f b p : List ℕ) → (a ++ n ++ f) ++ (b ++ p ++ f) ≡ a ++ n ++ (f ++ b) ++ p ++ f
@@ -57,7 +57,7 @@ lines_are v = regrouped refused_key (decimal (number_of v.refusal)) (line_feed �
 
 pub refusal_by_its_lines : RefusalByItsLines
 refusal_by_its_lines v row w row' h near wide =
-    put_whole (refusal_text v) row w.bytes row' (handed-bytes (refusal_text v) row w row' h) (handed-row (refusal_text v) row w row' h) (omega (arith, refusal_short v near)) ∙ lines_are v
+    put_whole (refusal_text v) row w.bytes row' (handed_bytes (refusal_text v) row w row' h) (handed_row (refusal_text v) row w row' h) (omega (arith, refusal_short v near)) ∙ lines_are v
 
 pub handed_lines : (text row : List ℕ) (w : Written) (row' : List ℕ) → Handed (row_verdict text row) text row w row' → LinesHanded text row w row'
 unfolding row_verdict written_answer written_row
@@ -84,7 +84,7 @@ module _ (applies : Refusal → ℕ → Type 0) (order : List Refusal) (all : Al
 
   pub by_the_table : PrintedByTheTable applies order Asked text
   by_the_table =
-      let both = refused-iff applies finds all in
+      let both = refused_iff applies finds all in
       record {
         kind = v.refusal;
         place = v.place;
@@ -137,11 +137,11 @@ module _ (Judged : Run → Refusal → ℕ → Type 0) (small : (r : Run) (k : R
       let rule = refuse_at (cond (says_sweep sheet) 4 0) RetiredRule in
       rw
       (first_of_joined (long ∷ line ∷ []) (rule ∷ checks (sheet_run sheet)))
-      (finds-first Applies (line ∷ rule ∷ checks (sheet_run sheet)) refl
+      (finds_first Applies (line ∷ rule ∷ checks (sheet_run sheet)) refl
       (decides_reworded (λ p h. rw h.0 (too_long h.1)) long_back (decides_if _ LongSheet (tells_below longest_sheet (length sheet))))
-      (λ a. finds-first Applies (rule ∷ checks (sheet_run sheet)) refl (decides_reworded (λ p. bad_line) line_back (decides-line sheet))
-      (λ b. finds-first Applies (checks (sheet_run sheet)) refl
-      (decides_reworded (λ p h. rw h.0 (retired_rule h.1)) rule_back_here (decides_there _ 3 RetiredRule (tells-sweep sheet)))
+      (λ a. finds_first Applies (rule ∷ checks (sheet_run sheet)) refl (decides_reworded (λ p. bad_line) line_back (decides_line sheet))
+      (λ b. finds_first Applies (checks (sheet_run sheet)) refl
+      (decides_reworded (λ p h. rw h.0 (retired_rule h.1)) rule_back_here (decides_there _ 3 RetiredRule (tells_sweep sheet)))
       (λ c. others))))
 
   pub sheet_accepts : (checks : Run → List Verdict) → refuses (verdict_by checks sheet) ≡ false → verdict_by checks sheet ≡ accepted
@@ -158,16 +158,16 @@ module _ (sheet : List ℕ) where
 
   room_back : refuses (judge_of r) ≡ false → (p : ℕ) → AnswerApplies RoomApplies sheet ShortRoom p → (p ≡ 0) × (5120 < room_for r)
   room_back a p (run h) = absurd (omega (arith, run_small r h))
-  room_back a p (engine (short_room s h)) = (refl, rw (stops-one r (accepted_run r a) s) at h)
+  room_back a p (engine (short_room s h)) = (refl, rw (stops_one r (accepted_run r a) s) at h)
 
   pub room_finds : Finds (AnswerApplies RoomApplies sheet) room_order (recall_verdict sheet)
   room_finds =
       let room = refuse_if (ltb room_words (room_for r)) ShortRoom in
       sheet_finds RunApplies run_few RoomApplies room_own sheet run_checks (FileRows ∷ BadFile ∷ WantRows ∷ BadWant ∷ TooManyReads ∷ TurnPrice ∷ HeadPlace ∷ ShortRoom ∷ [])
-      (run-finds r (AnswerApplies RoomApplies sheet) (λ k p. run) (of_run RunApplies run_few RoomApplies room_own sheet) (ShortRoom ∷ []) (room ∷ [])
-      (λ a. finds-first (AnswerApplies RoomApplies sheet) [] refl
-      (decides_reworded (λ p h. rw h.0 (engine (short_room (has-stops r (accepted_run r a)) h.1))) (room_back a) (decides_if _ ShortRoom (tells_below room_words (room_for r))))
-      (λ b. finds-none (AnswerApplies RoomApplies sheet))))
+      (run_finds r (AnswerApplies RoomApplies sheet) (λ k p. run) (of_run RunApplies run_few RoomApplies room_own sheet) (ShortRoom ∷ []) (room ∷ [])
+      (λ a. finds_first (AnswerApplies RoomApplies sheet) [] refl
+      (decides_reworded (λ p h. rw h.0 (engine (short_room (has_stops r (accepted_run r a)) h.1))) (room_back a) (decides_if _ ShortRoom (tells_below room_words (room_for r))))
+      (λ b. finds_none (AnswerApplies RoomApplies sheet))))
 
 -- 24, behind 3: behind it the run's own checks find what they find, 1, 2 and 3 no longer among it.
 eight_own : (r : Run) (k : Refusal) (p : ℕ) → EightApplies r k p → (number_of k ≡ 9) ⊎ (number_of k ≡ 24)
@@ -194,17 +194,17 @@ module _ (sheet : List ℕ) where
       let late = late_behind q false t u in
       drop_front late.2
       (drop_front late.1
-      (drop_front late.0 (run-finds q Eight (λ k p. run) (of_run RunApplies run_few EightApplies eight_own sheet) [] [] (λ a. finds-none Eight))))
+      (drop_front late.0 (run_finds q Eight (λ k p. run) (of_run RunApplies run_few EightApplies eight_own sheet) [] [] (λ a. finds_none Eight))))
 
   pub eight_finds : Finds Eight eight_order (verdict_by field_checks sheet)
   eight_finds =
       let over = refuse_if (ltb most_plain_wants (length q.numbers)) OverEightWants in
       sheet_finds RunApplies run_few EightApplies eight_own sheet field_checks (FileRows ∷ BadFile ∷ WantRows ∷ OverEightWants ∷ BadWant ∷ TooManyReads ∷ TurnPrice ∷ HeadPlace ∷ [])
-      (table-finds q Eight (λ k p l. run) (λ k p l. of_run RunApplies run_few EightApplies eight_own sheet k p (omega arith))
+      (table_finds q Eight (λ k p l. run) (λ k p l. of_run RunApplies run_few EightApplies eight_own sheet k p (omega arith))
       (WantRows ∷ OverEightWants ∷ BadWant ∷ TooManyReads ∷ TurnPrice ∷ HeadPlace ∷ []) (refuse_if (uneven_wants q) WantRows ∷ over ∷ judge_of q ∷ [])
-      (λ t. finds-first Eight (over ∷ judge_of q ∷ []) refl
-      (decides_reworded (λ p h. rw h.0 (run (RunApplies.want_rows h.1))) (λ p h. want-rows-only q p (of_run RunApplies run_few EightApplies eight_own sheet WantRows p (omega arith) h)) (decides_if (uneven_wants q) WantRows (rows_unfit most_wants (length q.numbers) (length q.counts))))
-      (λ u. finds-first Eight (judge_of q ∷ []) refl
+      (λ t. finds_first Eight (over ∷ judge_of q ∷ []) refl
+      (decides_reworded (λ p h. rw h.0 (run (RunApplies.want_rows h.1))) (λ p h. want_rows_only q p (of_run RunApplies run_few EightApplies eight_own sheet WantRows p (omega arith) h)) (decides_if (uneven_wants q) WantRows (rows_unfit most_wants (length q.numbers) (length q.counts))))
+      (λ u. finds_first Eight (judge_of q ∷ []) refl
       (decides_reworded (λ p h. rw h.0 (engine (over_eight h.1))) eight_back (decides_if _ OverEightWants (tells_below 8 (length q.numbers))))
       (λ v. behind_finds t (accepts_if (uneven_wants q) WantRows refl u)))))
 
@@ -223,7 +223,7 @@ figures_begun name r text p = ap (λ t. get_or t 0 0) p.whole
 
 pub plan_by_the_table : PlanByTheTable
 plan_by_the_table sheet row n row' c wide =
-    let h = plan-held run_checks run_judges run_checks_near sheet c.text c.answers in
+    let h = plan_held run_checks run_judges run_checks_near sheet c.text c.answers in
     subst (PrintedByTheTable (AnswerApplies RoomApplies sheet) room_order (PlanPrinted (sheet_name sheet) (sheet_run sheet)))
     (sym (put_whole c.text row n row' c.bytes c.left (omega (arith, h.0))))
     (by_the_table (AnswerApplies RoomApplies sheet) room_order room_all (recall_verdict sheet) (room_finds sheet) (sheet_accepts RunApplies run_few RoomApplies room_own sheet run_checks)
@@ -232,7 +232,7 @@ plan_by_the_table sheet row n row' c wide =
 
 pub field_by_the_table : FieldByTheTable
 field_by_the_table sheet row n row' c wide =
-    let h = plan-held field_checks field_judges field_checks_near sheet c.text c.answers in
+    let h = plan_held field_checks field_judges field_checks_near sheet c.text c.answers in
     subst (PrintedByTheTable (AnswerApplies EightApplies sheet) eight_order (PlanPrinted (sheet_name sheet) (sheet_run sheet)))
     (sym (put_whole c.text row n row' c.bytes c.left (omega (arith, h.0))))
     (by_the_table (AnswerApplies EightApplies sheet) eight_order eight_all (verdict_by field_checks sheet) (eight_finds sheet) (sheet_accepts RunApplies run_few EightApplies eight_own sheet field_checks)
@@ -241,7 +241,7 @@ field_by_the_table sheet row n row' c wide =
 
 pub buys_by_the_table : BuysByTheTable
 buys_by_the_table sheet row n row' c wide =
-    let h = buys-held sheet c.text c.answers in
+    let h = buys_held sheet c.text c.answers in
     subst (PrintedByTheTable (AnswerApplies RoomApplies sheet) room_order (FiguresOf (sheet_name sheet) (sheet_run sheet)))
     (sym (put_whole c.text row n row' c.bytes c.left (omega (arith, h.0))))
     (by_the_table (AnswerApplies RoomApplies sheet) room_order room_all (recall_verdict sheet) (room_finds sheet) (sheet_accepts RunApplies run_few RoomApplies room_own sheet run_checks)

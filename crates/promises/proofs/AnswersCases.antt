@@ -23,7 +23,7 @@ use Rattle.walk.specs.AnyHead.{priced_any_answer}
 use Rattle.least.specs.Least.{LeastForRun}
 use Rattle.least.specs.AnyHead.{LeastAny}
 use Rattle.least.proofs.LeastList.{least_unique}
-use Rattle.least.proofs.LeastAny.{least_any_same, no-detour-left}
+use Rattle.least.proofs.LeastAny.{least_any_same, no_detour_left}
 use Rattle.planner.specs.Plan.{room_for}
 use Rattle.text_bytes.specs.Text.{bytes, has, before, behind, starts_with, all_of, value_from, is_number, is_name, decimal_in}
 use Rattle.text_lines.specs.Lines.{line_of, after_lines, is_number_line, is_pair, is_pair_line, is_triple, is_triple_line, first_bad_of, each_of}
@@ -42,17 +42,17 @@ use Rattle.answer_check.specs.RunRules.{head_anywhere}
 use Rattle.answer_check.specs.Pricing.{pricing_verdict, price_text}
 use Rattle.answer_check.specs.Checking.{differ_from, walk_line, difference_lines, least_line, verdict_lines, check_text, verdict_on, SheetChecked}
 use Rattle.demands.specs.Cases.{example_run}
-use Rattle.demands.proofs.Judged.{nothing-judged, judged-nothing}
+use Rattle.demands.proofs.Judged.{nothing_judged, judged_nothing}
 use Rattle.demands.proofs.Cases.{cases_hold}
 use Rattle.demands.proofs.AnyInstances.{mounted}
 use Rattle.promises.specs.Answers.{example_sheet, example_plan, PrintsTheExample, retired_sheet, PrintsTwoLines}
 use Rattle.promises.specs.Lengths.{check_row}
 use Rattle.promises.specs.CheckWhole.{wrong_plan, PrintsTheDifference, mounted_sheet, mounted_plan, ChecksMounted}
 use Rattle.promises.specs.Mends.{SheetComesBack}
-use Rattle.promises.proofs.Early.{none-early}
+use Rattle.promises.proofs.Early.{none_early}
 use Rattle.promises.proofs.Mends.{accepted_comes_back}
 use Rattle.promises.proofs.Checks.{put_whole}
-use Rattle.promises.proofs.Lengths.{run_judges, run_checks_near, plan-held}
+use Rattle.promises.proofs.Lengths.{run_judges, run_checks_near, plan_held}
 use Rattle.promises.specs.TwoTexts.{PrintsTheListsLine}
 use Rattle.promises.specs.ListEntries.{priced_plan, PricesTheExample}
 use Rattle.promises.proofs.InputLengths.{price_held, check_fits}
@@ -62,7 +62,7 @@ abbrev best : List Detour
 best = record { from = 2; to = 2 } ∷ []
 
 example_judged : refuses (judge_of example_run) ≡ false
-example_judged = nothing-judged example_run cases_hold.1.1.1.1.1.1.1.1.1.1.0.accepted
+example_judged = nothing_judged example_run cases_hold.1.1.1.1.1.1.1.1.1.1.0.accepted
 
 example_least : LeastForRun example_run best
 example_least = cases_hold.1.1.1.1.1.1.1.1.1.1.0.least.0 refl
@@ -89,7 +89,7 @@ example_text_lem = refl
 
 pub prints_the_example : PrintsTheExample
 prints_the_example row n row' c wide =
-    let h = plan-held run_checks run_judges run_checks_near example_sheet c.text c.answers in
+    let h = plan_held run_checks run_judges run_checks_near example_sheet c.text c.answers in
     let p = c.answers.planned example_passes in
     let least : LeastForRun example_run p.list = rw example_run_lem at p.least in
     let one : p.list ≡ best = least_unique example_run.turn example_run.head (stops_of example_run) p.list best least example_least in
@@ -101,7 +101,7 @@ prints_the_example row n row' c wide =
 
 -- So it is what the mender asks of a sheet that comes back.
 pub example_comes_back : SheetComesBack example_sheet
-example_comes_back = accepted_comes_back example_sheet (none-early example_sheet example_good example_ruled) (judged-nothing (sheet_run example_sheet) (ap (λ r. refuses (judge_of r)) example_run_lem ∙ example_judged))
+example_comes_back = accepted_comes_back example_sheet (none_early example_sheet example_good example_ruled) (judged_nothing (sheet_run example_sheet) (ap (λ r. refuses (judge_of r)) example_run_lem ∙ example_judged))
 
 -- The retired rule.
 retired_good : sheet_verdict retired_sheet ≡ accepted
@@ -122,7 +122,7 @@ retired_text = refl
 
 pub prints_two_lines : PrintsTwoLines
 prints_two_lines row n row' c wide =
-    let h = plan-held run_checks run_judges run_checks_near retired_sheet c.text c.answers in
+    let h = plan_held run_checks run_judges run_checks_near retired_sheet c.text c.answers in
     put_whole c.text row n row' c.bytes c.left (omega (arith, h.0)) ∙ c.answers.refused (ap refuses retired_refused) ∙ ap refusal_text retired_refused ∙ retired_text
 
 -- The wrong digit.
@@ -269,7 +269,7 @@ mounted_passes words l plan f = rw (mounted_good, mounted_ruled, f, mounted_run,
 -- No detour is well formed there.
 mounted_none : (list : List Detour) → LeastAny mounted list → list ≡ []
 unfolding joined want_stops join_to first_member goes_on
-mounted_none list least = no-detour-left 0 _ _ _ (run_sound (lifted mounted) (accepted_any mounted (ap refuses mounted_judged)).run) (λ i l. omega arith) list least.formed
+mounted_none list least = no_detour_left 0 _ _ _ (run_sound (lifted mounted) (accepted_any mounted (ap refuses mounted_judged)).run) (λ i l. omega arith) list least.formed
 
 mounted_list : (plan_froms mounted_plan ≡ []) × (plan_tos mounted_plan ≡ [])
 unfolding plan_froms plan_tos detours_told detour_text each_of value_from line_of after_lines has before behind

@@ -27,19 +27,19 @@ use Rattle.answer_any.proofs.Planned.{room_kept, room_cleared}
 use Rattle.answer_any.proofs.Determined.{plan_any_once}
 use Rattle.demands.specs.RefusalTable.{HasStops, FirstThatApplies, none, here, later}
 use Rattle.demands.specs.AnyHead.{RunAppliesAny}
-use Rattle.demands.proofs.Checks.{AllRefuse, refused-iff}
-use Rattle.demands.proofs.Counted.{has-stops}
-use Rattle.demands.proofs.AnyLifted.{stops-down}
+use Rattle.demands.proofs.Checks.{AllRefuse, refused_iff}
+use Rattle.demands.proofs.Counted.{has_stops}
+use Rattle.demands.proofs.AnyLifted.{stops_down}
 use Rattle.demands.proofs.AnyJudged.{any_small}
 use Rattle.promises.specs.Answers.{run, engine, WordsApply, room_order}
 use Rattle.promises.specs.AnswersAny.{AnyApplies, RoomPrinted, AnyLeavesTheRoom, RecordApplies, of_sheet, short_row, RecordByTheTable, AnswerByTheTable}
 use Rattle.promises.specs.AnyFigures.{BuysAnyLeavesTheRoom}
 use Rattle.promises.specs.PlanLines.{PlanAnyPrinted}
 use Rattle.promises.proofs.DeskDays.{accepts}
-use Rattle.promises.proofs.PlanLines.{plan-any-printed, plan-any-back}
-use Rattle.promises.proofs.Answers.{room_all, sheet-accepts}
-use Rattle.promises.proofs.AnyLengths.{any-passes}
-use Rattle.promises.proofs.AnswersAny.{any_few, words_own, one, any-finds}
+use Rattle.promises.proofs.PlanLines.{plan_any_printed, plan_any_back}
+use Rattle.promises.proofs.Answers.{room_all, sheet_accepts}
+use Rattle.promises.proofs.AnyLengths.{any_passes}
+use Rattle.promises.proofs.AnswersAny.{any_few, words_own, one, any_finds}
 
 -- Orders in which 8 is not.
 abbrev pub NoEight : List Refusal → Type 0
@@ -90,11 +90,11 @@ module _ (sheet room room' : List ℕ) (is : room' ≡ room_left sheet room) whe
       → room' ≡ replicate (stops * stops * (total (sheet_run sheet).counts + 1)) 0 ++ drop (stops * stops * (total (sheet_run sheet).counts + 1)) room
   room_by_stops e stops s =
       is ∙ room_cleared judging (sheet_run sheet) room e
-      ∙ ap (λ n. replicate n 0 ++ drop n room) (sym (one (length room) sheet stops (any-passes (length room) sheet e).1 s))
+      ∙ ap (λ n. replicate n 0 ++ drop n room) (sym (one (length room) sheet stops (any_passes (length room) sheet e).1 s))
 
   room_printed : RoomPrinted sheet room room'
   room_printed =
-      let by-table = refused-iff (AnyApplies (length room) sheet) (any-finds (length room) sheet) room_all in
+      let by-table = refused_iff (AnyApplies (length room) sheet) (any_finds (length room) sheet) room_all in
       record {
         kept = λ some.
             ⊎_elim (λ (e : refuses judging ≡ true). is ∙ room_kept judging (sheet_run sheet) room e)
@@ -104,7 +104,7 @@ module _ (sheet room room' : List ℕ) (is : room' ≡ room_left sheet room) whe
             ⊎_elim (λ (e : refuses judging ≡ true). absurd (none (by-table.0 (λ k. true≢false (sym e ∙ ap is_refusal k)))))
             (λ (e : refuses judging ≡ false).
             let run = sheet_run sheet in
-            let has = stops-down run (has-stops (lifted run) (accepted_any run (any-passes (length room) sheet e).1).run) in
+            let has = stops_down run (has_stops (lifted run) (accepted_any run (any_passes (length room) sheet e).1).run) in
             record { stops = length (stops_of (lifted run)); are = has; left = room_by_stops e (length (stops_of (lifted run))) has })
             (true_or_false (refuses judging));
       }
@@ -125,9 +125,9 @@ module _ (sheet row room : List ℕ) (w : Written) (row' room' : List ℕ) (c : 
       let p = c.refused e in
       let kind : w.refusal ≡ v.refusal = ap (λ x. x.refusal) p.says in
       let no : w.refusal ≡ Accepted → ⊥ = λ is. true≢false (sym e ∙ ap is_refusal (sym kind ∙ is)) in
-      let other : w.refusal ≡ ShortRow → ⊥ = λ is. not_eight (AnyApplies (length room) sheet) room_order no_eight (any-finds (length room) sheet) (ap number_of (sym kind ∙ is)) in
+      let other : w.refusal ≡ ShortRow → ⊥ = λ is. not_eight (AnyApplies (length room) sheet) room_order no_eight (any_finds (length room) sheet) (ap number_of (sym kind ∙ is)) in
       record {
-        first = rw p.says (found (length room) sheet row room_order (ShortRow ∷ []) no_eight (λ is. no (kind ∙ is)) (any-finds (length room) sheet));
+        first = rw p.says (found (length room) sheet row room_order (ShortRow ∷ []) no_eight (λ is. no (kind ∙ is)) (any_finds (length room) sheet));
         unwritten = λ n. (ap (λ x. x.bytes) p.says, p.kept);
         text = λ is. absurd (no is);
         counted = let z : w.bytes ≡ 0 = ap (λ x. x.bytes) p.says in rw z;
@@ -142,16 +142,16 @@ module _ (sheet row room : List ℕ) (w : Written) (row' room' : List ℕ) (c : 
     plan = c.planned e
 
     judged : refuses (judge_any_of (sheet_run sheet)) ≡ false
-    judged = (any-passes (length room) sheet e).1
+    judged = (any_passes (length room) sheet e).1
 
     printed : PlanAnyPrinted (sheet_name sheet) (sheet_run sheet) plan.text
-    printed = plan-any-printed (sheet_name sheet) (sheet_run sheet) judged plan.text plan.asked
+    printed = plan_any_printed (sheet_name sheet) (sheet_run sheet) judged plan.text plan.asked
 
     left : (stops : ℕ) → HasStops (sheet_run sheet) stops → room' ≡ replicate (stops * stops * (total (sheet_run sheet).counts + 1)) 0 ++ drop (stops * stops * (total (sheet_run sheet).counts + 1)) room
     left = room_by_stops sheet room room' c.cleared e
 
     none_before : FirstThatApplies (AnyApplies (length room) sheet) room_order Accepted 0
-    none_before = rw (sheet-accepts RunAppliesAny any_few (WordsApply (length room)) (words_own (length room)) sheet (any_checks (length room)) e) at (any-finds (length room) sheet)
+    none_before = rw (sheet_accepts RunAppliesAny any_few (WordsApply (length room)) (words_own (length room)) sheet (any_checks (length room)) e) at (any_finds (length room) sheet)
 
     too_short : ltb (length row) (length plan.text) ≡ true → RecordByTheTable sheet row room w row' room'
     unfolding row_verdict written_answer written_row
@@ -195,7 +195,7 @@ module _ (sheet row room : List ℕ) (w : Written) (row' room' : List ℕ) (c : 
         long_enough_here : (p : ℕ) → RecordApplies (length room) sheet row ShortRow p → ⊥
         long_enough_here p (of_sheet h) = no_short_row (length room) sheet row p h
         long_enough_here p (short_row text a l) =
-            omega (arith, l, ltb-false (length row) (length plan.text) t, ap length (plan_any_once (sheet_name sheet) (sheet_run sheet) text plan.text (plan-any-back (sheet_name sheet) (sheet_run sheet) judged text a) plan.asked))
+            omega (arith, l, ltb-false (length row) (length plan.text) t, ap length (plan_any_once (sheet_name sheet) (sheet_run sheet) text plan.text (plan_any_back (sheet_name sheet) (sheet_run sheet) judged text a) plan.asked))
 
 pub answer_by_the_table : AnswerByTheTable
 answer_by_the_table sheet row room w row' room' c = go (refuses (any_verdict (length room) sheet)) refl

@@ -26,14 +26,14 @@ use Rattle.answer_month.specs.Month.{too_large, grown, refused_with, over_refuse
 use Rattle.demands.specs.RefusalTable.{RunApplies}
 use Rattle.demands.specs.AnyHead.{RunAppliesAny}
 use Rattle.demands.proofs.Tests.{Tells, tells_below, tells_at_most, tells_true, tells_either, tells_holds}
-use Rattle.demands.proofs.Checks.{decides_if, decides_reworded, Finds, finds-none, finds-first}
-use Rattle.demands.proofs.Judged.{run_small, run-finds}
-use Rattle.demands.proofs.AnyJudged.{run-any-finds}
-use Rattle.demands.proofs.Counted.{has-stops, stops-one}
+use Rattle.demands.proofs.Checks.{decides_if, decides_reworded, Finds, finds_none, finds_first}
+use Rattle.demands.proofs.Judged.{run_small, run_finds}
+use Rattle.demands.proofs.AnyJudged.{run_any_finds}
+use Rattle.demands.proofs.Counted.{has_stops, stops_one}
 use Rattle.promises.specs.Callers.{BytesAreHanded, TextsAreHanded, TextIsHandedOut, JudgedAnyByTheTable, JoinApplies, join_order, HasOfEach, JoinAnswers, JoinTells, LongestIsFirst, Overflows, Grows, RefusedMore, TotalsMore, AcceptedMore, OutcomeIsAdded, AddedInTurn}
 use Rattle.promises.proofs.Answers.{handed_lines}
 use Rattle.promises.proofs.MonthTotals.{grown_fits}
-use Rattle.promises.proofs.MonthLongest.{none_longer, first-longest, no-longest}
+use Rattle.promises.proofs.MonthLongest.{none_longer, first_longest, no_longest}
 
 -- What is handed out.
 pub bytes_are_handed : BytesAreHanded
@@ -51,7 +51,7 @@ pub judged_any_by_the_table : JudgedAnyByTheTable
 unfolding judge_any_of
 judged_any_by_the_table r =
     let checks : List Verdict = first_of (table_checks r.starts r.lengths r.aggregates) ∷ first_of (wants_checks (length r.starts) r.numbers r.counts) ∷ first_of (head_any_checks r.turn r.head) ∷ [] in
-    rw (first_alone checks) at (run-any-finds r (RunAppliesAny r) (λ k p h. h) (λ k p l h. h) [] [] (λ a. finds-none (RunAppliesAny r)))
+    rw (first_alone checks) at (run_any_finds r (RunAppliesAny r) (λ k p h. h) (λ k p l h. h) [] [] (λ a. finds_none (RunAppliesAny r)))
 
 -- Stops in rows.
 has_of_each : (number : Stop → ℕ) (stops : List Stop) (row : List ℕ) → number (record { file = 0; start = 0; end = 0; count = 0 }) ≡ 0 → HasOfEach number stops row (map number stops ++ drop (length stops) row)
@@ -75,8 +75,8 @@ module _ (r : Run) (rows : JoinRows) where
   abbrev IsShort : Type 0
   IsShort = (((length rows.firsts < many) ⊎ (length rows.lefts < many)) ⊎ (length rows.spans < many)) ⊎ (length rows.reads < many)
 
-  tells_short : Tells (short_join_rows many rows) IsShort
-  tells_short =
+  tells_short_here : Tells (short_join_rows many rows) IsShort
+  tells_short_here =
       let a = ltb (length rows.firsts) many in
       let b = ltb (length rows.lefts) many in
       let c = ltb (length rows.spans) many in
@@ -87,25 +87,25 @@ module _ (r : Run) (rows : JoinRows) where
   module _ (good : GoodRun r) where
     short_there : (p : ℕ) → (p ≡ 0) × IsShort → JoinApplies r rows ShortRow p
     short_there p h =
-        let all = has-stops r good in
+        let all = has_stops r good in
         rw h.0 (⊎_elim (⊎_elim (⊎_elim (JoinApplies.short_firsts all) (JoinApplies.short_lefts all)) (JoinApplies.short_spans all)) (JoinApplies.short_reads all) h.1)
 
     short_back : (p : ℕ) → JoinApplies r rows ShortRow p → (p ≡ 0) × IsShort
     short_back p (JoinApplies.run h) = absurd (omega (arith, run_small r h))
-    short_back p (JoinApplies.short_firsts s h) = (refl, inl (inl (inl (rw (stops-one r good s) at h))))
-    short_back p (JoinApplies.short_lefts s h) = (refl, inl (inl (inr (rw (stops-one r good s) at h))))
-    short_back p (JoinApplies.short_spans s h) = (refl, inl (inr (rw (stops-one r good s) at h)))
-    short_back p (JoinApplies.short_reads s h) = (refl, inr (rw (stops-one r good s) at h))
+    short_back p (JoinApplies.short_firsts s h) = (refl, inl (inl (inl (rw (stops_one r good s) at h))))
+    short_back p (JoinApplies.short_lefts s h) = (refl, inl (inl (inr (rw (stops_one r good s) at h))))
+    short_back p (JoinApplies.short_spans s h) = (refl, inl (inr (rw (stops_one r good s) at h)))
+    short_back p (JoinApplies.short_reads s h) = (refl, inr (rw (stops_one r good s) at h))
 
   abbrev checks : List Verdict
   checks = judge_of r ∷ refuse_if (short_join_rows many rows) ShortRow ∷ []
 
   join_finds : Finds (JoinApplies r rows) join_order (first_of checks)
   join_finds =
-      run-finds r (JoinApplies r rows) (λ k p. JoinApplies.run) join_of_run (ShortRow ∷ []) (refuse_if (short_join_rows many rows) ShortRow ∷ [])
-      (λ a. finds-first (JoinApplies r rows) [] refl
-      (decides_reworded (short_there (accepted_run r a)) (short_back (accepted_run r a)) (decides_if _ ShortRow tells_short))
-      (λ b. finds-none (JoinApplies r rows)))
+      run_finds r (JoinApplies r rows) (λ k p. JoinApplies.run) join_of_run (ShortRow ∷ []) (refuse_if (short_join_rows many rows) ShortRow ∷ [])
+      (λ a. finds_first (JoinApplies r rows) [] refl
+      (decides_reworded (short_there (accepted_run r a)) (short_back (accepted_run r a)) (decides_if _ ShortRow tells_short_here))
+      (λ b. finds_none (JoinApplies r rows)))
 
   join_says : (b : Bool) → refuses (first_of checks) ≡ b → JoinAnswers r rows (join_answer r rows) (join_rows_of r rows)
   unfolding join_verdict join_answer join_rows_of
@@ -117,7 +117,7 @@ module _ (r : Run) (rows : JoinRows) where
       (record {
         first = join_finds;
         kept = λ n. absurd (n (ap (λ v. v.refusal) (none_refuses checks e)));
-        counted = λ a. (has-stops r (accepted_run r (all_accept checks e).0), refl);
+        counted = λ a. (has_stops r (accepted_run r (all_accept checks e).0), refl);
         joined = λ a.
             record {
               firsts = has_of_each (λ s. s.file) (stops_of r) rows.firsts refl;
@@ -132,7 +132,7 @@ join_tells r before answer after says fills = rw (says, fills) (join_says r befo
 
 -- The longest of some times.
 pub longest_is_first : LongestIsFirst
-longest_is_first files times = record { longest = none_longer files times; some = first-longest files times; none = no-longest files times }
+longest_is_first files times = record { longest = none_longer files times; some = first_longest files times; none = no_longest files times }
 
 -- One outcome more.
 pub grows : (total more : ℕ) → Grows total more (grown total more)

@@ -28,7 +28,7 @@ use Rattle.demands.specs.Lines.{Stands, Name, Number, NumberOrNothing, RuleName}
 use Rattle.demands.specs.SheetLines.{PriceText}
 use Rattle.demands.proofs.Tests.{Tells, tells_below, tells_not, tells_either, tells_both, tells_reworded, tells_holds}
 use Rattle.demands.proofs.Canonical.{number_text}
-use Rattle.demands.proofs.Lines.{name_flat, nothing_flat, number_some, tells-tape, tells-turn, tells-rule}
+use Rattle.demands.proofs.Lines.{name_flat, nothing_flat, number_some, tells_tape, tells_turn, tells_rule}
 use Rattle.demands.proofs.SheetLines.{value_read}
 use Rattle.promises.specs.CallersLines.{StandsAt, NoLineAt, TurnLineIsRead, RuleLineIsRead, TapeLineIsRead, NeighboursOverlap, OverlapIsTold, CanBeKept, PlaceAmong, PutIn, FileTold, FileIsKept}
 
@@ -86,26 +86,26 @@ module _ (text : List ℕ) (at : ℕ) where
 pub turn_line_is_read : TurnLineIsRead
 unfolding has after_lines
 turn_line_is_read text at (NumberLine.Value turn next) h =
-    let s = (tells-turn (drop at text) 0).when_true h.0.good in
+    let s = (tells_turn (drop at text) 0).when_true h.0.good in
     first_at turn_key refl NumberOrNothing nothing_flat text at is_turn_line next _ h.0 s (s.kind, rw h.1 (price_read text at s))
-turn_line_is_read text at NumberLine.Bad h = none_at_here turn_key refl NumberOrNothing nothing_flat text at (is_turn_line (line_of (drop at text))) (tells-turn (drop at text) 0) h
+turn_line_is_read text at NumberLine.Bad h = none_at_here turn_key refl NumberOrNothing nothing_flat text at (is_turn_line (line_of (drop at text))) (tells_turn (drop at text) 0) h
 
 pub rule_line_is_read : RuleLineIsRead
 unfolding has after_lines
 rule_line_is_read text at (RuleLine.Value sweep next) h =
-    let s = (tells-rule (drop at text) 0).when_true h.0.good in
+    let s = (tells_rule (drop at text) 0).when_true h.0.good in
     first_at rule_key refl RuleName rule_flat text at is_rule_line next _ h.0 s (rw h.1 (rule_said text at s h.0.good))
-rule_line_is_read text at RuleLine.Bad h = none_at_here rule_key refl RuleName rule_flat text at (is_rule_line (line_of (drop at text))) (tells-rule (drop at text) 0) h
+rule_line_is_read text at RuleLine.Bad h = none_at_here rule_key refl RuleName rule_flat text at (is_rule_line (line_of (drop at text))) (tells_rule (drop at text) 0) h
 
 pub tape_line_is_read : TapeLineIsRead
 unfolding has after_lines
 tape_line_is_read text (NameLine.Name end next) h =
-    let s = (tells-tape text 0).when_true h.0.good in
+    let s = (tells_tape text 0).when_true h.0.good in
     let is : value_text tape_key (line_of text) ≡ s.value = value_read tape_key refl text 0 Name s (name_flat s.value s.kind) in
     let long : length (take (end - 5) (drop 5 text)) ≡ length s.value = ap length (h.1.name ∙ is) in
     first_at tape_key refl Name name_flat text 0 is_tape_line next _ h.0 s
     (s.kind, omega (arith, long, length-take (end - 5) (drop 5 text), length-drop 5 text, h.1.ordered, h.1.within))
-tape_line_is_read text NameLine.Bad h = none_at_here tape_key refl Name name_flat text 0 (is_tape_line (line_of text)) (tells-tape text 0) h
+tape_line_is_read text NameLine.Bad h = none_at_here tape_key refl Name name_flat text 0 (is_tape_line (line_of text)) (tells_tape text 0) h
 
 -- Neighbours.
 one_on : (s l : ℕ) (starts lengths : List ℕ) → NeighboursOverlap starts lengths → NeighboursOverlap (s ∷ starts) (l ∷ lengths)

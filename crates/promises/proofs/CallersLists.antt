@@ -27,11 +27,11 @@ use Rattle.engine_stops.proofs.Halves.{list_of_halves, half_long}
 use Rattle.planner.specs.Plan.{room_for}
 use Rattle.sheet_reader.specs.Sheet.{sheet_files, sheet_wants, sheet_run, sheet_name}
 use Rattle.sheet_reader.specs.Reading.{sheet_verdict, rule_verdict, read_name}
-use Rattle.sheet_reader.proofs.Good.{no-bad-line}
+use Rattle.sheet_reader.proofs.Good.{no_bad_line}
 use Rattle.sheet_reader.proofs.Rows.{length_each}
 use Rattle.sheet_runs.specs.declared.SheetRun.{SheetRun}
 use Rattle.sheet_runs.specs.SheetRuns.{early_verdict, filled_up, in_rows, run_by_value}
-use Rattle.sheet_runs.proofs.Runs.{sheet-holds}
+use Rattle.sheet_runs.proofs.Runs.{sheet_holds}
 use Rattle.answer_plan.specs.declared.PlannedList.{PlannedList}
 use Rattle.answer_plan.specs.Recall.{room_words, run_checks}
 use Rattle.answer_plan.specs.PlannedLists.{in_list, ListsRun}
@@ -43,10 +43,10 @@ use Rattle.desk_tickets.proofs.Placed.{placed_at, placed_long}
 use Rattle.demands.specs.RefusalTable.{RunApplies}
 use Rattle.demands.specs.SheetLines.{OnItsLines}
 use Rattle.demands.proofs.Tests.{tells_below}
-use Rattle.demands.proofs.Checks.{decides_if, decides_reworded, Finds, finds-none, finds-first}
-use Rattle.demands.proofs.Judged.{run_small, run-finds}
-use Rattle.demands.proofs.Counted.{has-stops, stops-one}
-use Rattle.demands.proofs.AnyLifted.{stops-down}
+use Rattle.demands.proofs.Checks.{decides_if, decides_reworded, Finds, finds_none, finds_first}
+use Rattle.demands.proofs.Judged.{run_small, run_finds}
+use Rattle.demands.proofs.Counted.{has_stops, stops_one}
+use Rattle.demands.proofs.AnyLifted.{stops_down}
 use Rattle.demands.proofs.FirstLine.{no_line}
 use Rattle.demands.proofs.SheetLines.{sheet_holds_its_lines}
 use Rattle.demands.proofs.Writers.{plan_sheet_writer, plan_any_sheet_writer}
@@ -54,7 +54,7 @@ use Rattle.promises.specs.Answers.{RoomApplies, short_room}
 use Rattle.promises.specs.TwoTexts.{PlannedApplies, planned_order}
 use Rattle.promises.specs.CallersLists.{RefusalIsAnswered, MovedUp, FirstOnesLeave, OnlyFirst, run_is, SheetRunTold, SheetRunIsRead, ListTold, RunInWords, ListIsTold, AnyListIsTold, ListIsWritten, AnyListIsWritten}
 use Rattle.promises.proofs.Answers.{refusal_is_handed}
-use Rattle.promises.proofs.TwoTexts.{early-finds, planned-finds}
+use Rattle.promises.proofs.TwoTexts.{early_finds, planned_finds}
 
 pub refusal_is_answered : RefusalIsAnswered
 refusal_is_answered v = record { kind = refl; place = refl; others = refl }
@@ -166,14 +166,14 @@ module _ (sheet : List ℕ) where
 
   read_so : (run_by_value sheet).verdict.refusal ≡ Accepted → OnItsLines sheet (sheet_name sheet) (run_is (run_by_value sheet))
   read_so a =
-      let h = sheet-holds sheet (run_by_value sheet) refl (is_refusal (run_by_value sheet).verdict.refusal) refl (ap is_refusal a) in
-      subst (OnItsLines sheet (sheet_name sheet)) (sym h.run) (sheet_holds_its_lines sheet (no_line sheet (no-bad-line sheet h.good)))
+      let h = sheet_holds sheet (run_by_value sheet) refl (is_refusal (run_by_value sheet).verdict.refusal) refl (ap is_refusal a) in
+      subst (OnItsLines sheet (sheet_name sheet)) (sym h.run) (sheet_holds_its_lines sheet (no_line sheet (no_bad_line sheet h.good)))
 
   sheet_run_here : SheetRunTold sheet (run_by_value sheet)
   sheet_run_here =
       let rows = rows_of (refuses (first_of early)) refl in
       record {
-        first = rw said (early-finds sheet);
+        first = rw said (early_finds sheet);
         none = none_so;
         read = read_so;
         starts = rows.starts;
@@ -243,20 +243,20 @@ module _ (r : Run) where
   room_number : (k : Refusal) (p : ℕ) → RoomApplies r k p → number_of k ≡ 9
   room_number k p (short_room s h) = refl
 
-  of_run : (k : Refusal) (p : ℕ) → number_of k ≤ 7 → RunInWords r k p → RunApplies r k p
-  of_run k p l (RunInWords.run h) = h
-  of_run k p l (RunInWords.room h) = absurd (omega (arith, room_number k p h))
+  of_run_here : (k : Refusal) (p : ℕ) → number_of k ≤ 7 → RunInWords r k p → RunApplies r k p
+  of_run_here k p l (RunInWords.run h) = h
+  of_run_here k p l (RunInWords.room h) = absurd (omega (arith, room_number k p h))
 
   room_back : refuses (judge_of r) ≡ false → (p : ℕ) → RunInWords r ShortRoom p → (p ≡ 0) × (5120 < room_for r)
   room_back a p (RunInWords.run h) = absurd (omega (arith, run_small r h))
-  room_back a p (RunInWords.room (short_room s h)) = (refl, rw (stops-one r (accepted_run r a) s) at h)
+  room_back a p (RunInWords.room (short_room s h)) = (refl, rw (stops_one r (accepted_run r a) s) at h)
 
   words_find : Finds (RunInWords r) planned_order (first_of (run_checks r))
   words_find =
-      run-finds r (RunInWords r) (λ k p. RunInWords.run) of_run (ShortRoom ∷ []) (refuse_if (ltb room_words (room_for r)) ShortRoom ∷ [])
-      (λ a. finds-first (RunInWords r) [] refl
-      (decides_reworded (λ p h. rw h.0 (RunInWords.room (short_room (has-stops r (accepted_run r a)) h.1))) (room_back a) (decides_if _ ShortRoom (tells_below room_words (room_for r))))
-      (λ b. finds-none (RunInWords r)))
+      run_finds r (RunInWords r) (λ k p. RunInWords.run) of_run_here (ShortRoom ∷ []) (refuse_if (ltb room_words (room_for r)) ShortRoom ∷ [])
+      (λ a. finds_first (RunInWords r) [] refl
+      (decides_reworded (λ p h. rw h.0 (RunInWords.room (short_room (has_stops r (accepted_run r a)) h.1))) (room_back a) (decides_if _ ShortRoom (tells_below room_words (room_for r))))
+      (λ b. finds_none (RunInWords r)))
 
 pub list_is_told : ListIsTold
 list_is_told r l h = list_told RunInWords LeastForRun run_checks r (words_find (run_is r)) l h
@@ -266,14 +266,14 @@ any_list_is_told r room l room' h =
     let run = run_is r in
     let checks = any_checks (length room) in
     let v = first_of (r.verdict ∷ checks run) in
-    let finds = planned-finds (length room) run in (
+    let finds = planned_finds (length room) run in (
       list_told (PlannedApplies (length room)) LeastAny checks r finds l h.listed,
       record {
         kept = λ n. h.cleared ∙ room_kept v run room (stops_short (PlannedApplies (length room)) LeastAny checks r finds l h.listed n);
         cleared = λ a.
             let e = passes (PlannedApplies (length room)) LeastAny checks r finds l h.listed a in
             let judged = (all_accept (r.verdict ∷ checks run) e).1.0 in
-            record { stops = _; are = stops-down run (has-stops (lifted run) (accepted_any run judged).run); left = h.cleared ∙ room_cleared v run room e };
+            record { stops = _; are = stops_down run (has_stops (lifted run) (accepted_any run judged).run); left = h.cleared ∙ room_cleared v run room e };
       },
     )
 

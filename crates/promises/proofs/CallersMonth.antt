@@ -20,7 +20,7 @@ use Rattle.text_bytes.proofs.Split.{split_at}
 use Rattle.text_bytes.proofs.Decimals.{decimal_value, decimal_number, decimal_without}
 use Rattle.sheet_reader.specs.Sheet.{sheet_run, sheet_name}
 use Rattle.sheet_reader.specs.Reading.{sheet_verdict, rule_verdict}
-use Rattle.sheet_reader.proofs.Good.{good-name}
+use Rattle.sheet_reader.proofs.Good.{good_name}
 use Rattle.answer_plan.specs.Recall.{run_checks, verdict_by}
 use Rattle.answer_outcome.specs.declared.Outcome.{Outcome}
 use Rattle.answer_outcome.specs.Outcomes.{name_in, planned_outcome, OutcomeOf}
@@ -62,7 +62,7 @@ module _ (sheet : List ℕ) (o : Outcome) (p : OutcomeOf sheet o) (a : o.refusal
 
   name_short_here : length name ≤ 16
   unfolding verdict_by
-  name_short_here = name_fits name (good-name sheet (all_accept (sheet_verdict sheet ∷ rule_verdict sheet ∷ run_checks (sheet_run sheet)) (passes sheet o p a)).0)
+  name_short_here = name_fits name (good_name sheet (all_accept (sheet_verdict sheet ∷ rule_verdict sheet ∷ run_checks (sheet_run sheet)) (passes sheet o p a)).0)
 
   letters_are : o.letters ≡ length name
   unfolding planned_outcome

@@ -33,19 +33,19 @@ use Rattle.demands.specs.RefusalTable.{FirstThatApplies, none, here, later}
 use Rattle.demands.specs.Lines.{Stands, Number, NumberOrNothing}
 use Rattle.demands.specs.SheetLines.{PriceText}
 use Rattle.demands.proofs.Tests.{Tells, tells_below, tells_either, tells_reworded, tells_holds}
-use Rattle.demands.proofs.Checks.{decides_if, decides_reworded, Finds, finds-none, finds-first}
+use Rattle.demands.proofs.Checks.{decides_if, decides_reworded, Finds, finds_none, finds_first}
 use Rattle.demands.proofs.Canonical.{number_text}
-use Rattle.demands.proofs.Lines.{nothing_flat, number_some, tells-turn, tells-sweep}
+use Rattle.demands.proofs.Lines.{nothing_flat, number_some, tells_turn, tells_sweep}
 use Rattle.demands.proofs.SheetLines.{value_read}
 use Rattle.promises.specs.Mender.{WantLine, Come, SheetApplies}
 use Rattle.promises.specs.ListLines.{IsPlanSheet, PlanFormApplies, ListFormApplies, form_order}
 use Rattle.promises.specs.ListEntries.{OnPlanSheet, OnBareList}
 use Rattle.promises.specs.CallersRead.{ReaderApplies, form, short_row, rows_read_order, EntriesTooMany, ListReaderAnswers, PlanReaderTells, OnList, ListReaderTells, WantsTooMany, StartsBehind, PartsTold, WantsTold, NoParts, LooseReaderAnswers, LooseReaderTells}
 use Rattle.promises.proofs.Described.{described}
-use Rattle.promises.proofs.MenderLines.{nothing_stands, tail-behind, body-behind}
+use Rattle.promises.proofs.MenderLines.{nothing_stands, tail_behind, body_behind}
 use Rattle.promises.proofs.Mender.{form_finds, not_eight}
 use Rattle.promises.proofs.MenderWants.{parts_are_read}
-use Rattle.promises.proofs.ListLines.{is-plan, plan-is, plan_form_by_the_table, list_form_by_the_table}
+use Rattle.promises.proofs.ListLines.{is_plan_lem, plan_is, plan_form_by_the_table, list_form_by_the_table}
 use Rattle.promises.proofs.ListEntries.{plan_holds_its_lines, list_holds_its_lines}
 
 -- 8 behind 12 and 11.
@@ -67,8 +67,8 @@ module _ (Form : Refusal → ℕ → Type 0) (other : (k : Refusal) (p : ℕ) �
   then_rows (later a (later b none)) tells =
       later (λ p x. a p (long_back p x))
       (later (λ p x. b p (line_back p x))
-      (finds-first (ReaderApplies Form Short) [] refl (decides_reworded (λ p h. rw h.0 (short_row h.1)) row_back (decides_if short ShortRow (tells refl)))
-      (λ c. finds-none (ReaderApplies Form Short))))
+      (finds_first (ReaderApplies Form Short) [] refl (decides_reworded (λ p h. rw h.0 (short_row h.1)) row_back (decides_if short ShortRow (tells refl)))
+      (λ c. finds_none (ReaderApplies Form Short))))
 
 -- Two rows of entries.
 module _ (Form : Refusal → ℕ → Type 0) (other : (k : Refusal) (p : ℕ) → Form k p → number_of k ≡ 8 → ⊥) (On : List ℕ → List ℕ → Type 0) (v : Verdict) (many : ℕ) (text starts ends : List ℕ)
@@ -151,13 +151,13 @@ module _ (list : List ℕ) (passes : refuses (list_form list) ≡ false) where
   on_list =
       let both = list_holds_its_lines list passes in
       ⊎_elim
-      (λ (t : is_plan list ≡ true). inl (is-plan list t, both.0 (is-plan list t)))
-      (λ (f : is_plan list ≡ false). let n : IsPlanSheet list → ⊥ = λ p. true≢false (sym (plan-is list p) ∙ f) in inr (n, both.1 n))
+      (λ (t : is_plan list ≡ true). inl (is_plan_lem list t, both.0 (is_plan_lem list t)))
+      (λ (f : is_plan list ≡ false). let n : IsPlanSheet list → ⊥ = λ p. true≢false (sym (plan_is list p) ∙ f) in inr (n, both.1 n))
       (true_or_false (is_plan list))
 
   list_once_here : (froms tos : List ℕ) → OnList list froms tos → (length froms ≡ list_detours list) × (length tos ≡ list_detours list)
   unfolding list_detours list_froms list_text
-  list_once_here froms tos (inl (p, o)) = rw (plan-is list p) (plan_once list froms tos o)
+  list_once_here froms tos (inl (p, o)) = rw (plan_is list p) (plan_once list froms tos o)
   list_once_here froms tos (inr (n, o)) =
       let own = (list_holds_its_lines list passes).1 n in
       let a = no_fewer list froms tos (list_froms list) (list_tos list) o own in
@@ -212,8 +212,8 @@ module _ (sheet wanted counts : List ℕ) where
   starts_behind n text is = let e = after_ends n sheet in record { within = omega (arith, e.short); rest = rw is e.rest }
 
   module _ (good : first_bad_loose sheet ≡ 0) where
-    turn_line : Stands turn_key NumberOrNothing sheet 2
-    turn_line = (tells-turn sheet 2).when_true (described sheet good).turn
+    turn_line_here : Stands turn_key NumberOrNothing sheet 2
+    turn_line = (tells_turn sheet 2).when_true (described sheet good).turn
 
     turn_read : value_text turn_key (line_after 2 sheet) ≡ turn_line_here.value
     unfolding has
@@ -233,9 +233,9 @@ module _ (sheet wanted counts : List ℕ) where
               s.kind;
         }
 
-    price_empty : (price_left_out sheet ≡ true) ↔ Stands turn_key (λ value. value ≡ []) sheet 2
+    price_empty_here : (price_left_out sheet ≡ true) ↔ Stands turn_key (λ value. value ≡ []) sheet 2
     unfolding price_left_out has
-    price_empty = (
+    price_empty_here = (
       λ e. let s = turn_line_here in record { value = s.value; rest = s.rest; is = s.is; kind = sym turn_read ∙ none_there _ e },
       λ s. ap is_empty (value_read turn_key refl sheet 2 (λ value. value ≡ []) s (ap (has line_feed) s.kind) ∙ s.kind),
     )
@@ -251,18 +251,18 @@ module _ (sheet wanted counts : List ℕ) where
           listed = r.files_said;
           asked = r.wants_said;
           turn = price_stands;
-          empty = price_empty;
-          sweep = ((tells-sweep sheet).when_true, tells_holds _ (tells-sweep sheet));
+          empty = price_empty_here;
+          sweep = ((tells_sweep sheet).when_true, tells_holds _ (tells_sweep sheet));
           third = starts_behind 2 (after_lines 2 sheet) refl;
           table = starts_behind 5 (file_text sheet) refl;
-          tail = starts_behind (5 + F) (loose_wants_text sheet) (tail-behind sheet);
-          body = starts_behind (6 + F) (loose_want_text sheet) (body-behind sheet);
+          tail = starts_behind (5 + F) (loose_wants_text sheet) (tail_behind sheet);
+          body = starts_behind (6 + F) (loose_want_text sheet) (body_behind sheet);
         })
 
   module _ (p : Parts) (wanted' counts' : List ℕ) (h : LooseRead sheet wanted counts p wanted' counts') where
-    no_parts : refuses (first_of looseChecks) ≡ true → p ≡ refused_parts (first_of looseChecks)
+    no_parts_here : refuses (first_of looseChecks) ≡ true → p ≡ refused_parts (first_of looseChecks)
     unfolding want_rows_verdict loose_parts
-    no_parts e = h.answer ∙ rw e
+    no_parts_here e = h.answer ∙ rw e
 
     parts_are : refuses (first_of looseChecks) ≡ false → p ≡ sheet_parts sheet
     unfolding want_rows_verdict loose_parts
@@ -271,7 +271,7 @@ module _ (sheet wanted counts : List ℕ) where
     says : p.verdict ≡ first_of looseChecks
     says =
         ⊎_elim
-        (λ (e : refuses (first_of looseChecks) ≡ true). ap (λ x. x.verdict) (no_parts e))
+        (λ (e : refuses (first_of looseChecks) ≡ true). ap (λ x. x.verdict) (no_parts_here e))
         (λ (e : refuses (first_of looseChecks) ≡ false). ap (λ x. x.verdict) (parts_are e) ∙ sym (none_refuses looseChecks e))
         (true_or_false (refuses (first_of looseChecks)))
 
@@ -282,7 +282,7 @@ module _ (sheet wanted counts : List ℕ) where
     unfolding want_rows_verdict read_row
     loose_kept n =
         ⊎_elim
-        (λ (e : refuses (first_of looseChecks) ≡ true). (rw (no_parts e), h.files ∙ rw e, h.reads ∙ rw e))
+        (λ (e : refuses (first_of looseChecks) ≡ true). (rw (no_parts_here e), h.files ∙ rw e, h.reads ∙ rw e))
         (λ (e : refuses (first_of looseChecks) ≡ false). absurd (n (ap (λ x. x.refusal) (says ∙ none_refuses looseChecks e))))
         (true_or_false (refuses (first_of looseChecks)))
 

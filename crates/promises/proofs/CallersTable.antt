@@ -29,10 +29,10 @@ use Rattle.demands.specs.RefusalTable.{none, here, later}
 use Rattle.demands.specs.Demand1.{plan_order}
 use Rattle.demands.specs.Formed.{IsStop}
 use Rattle.demands.specs.AnyHead.{RunAppliesAny}
-use Rattle.demands.proofs.Tests.{Tells, tells_below, tells_at_most, tells_not, tells_either, tells_regrouped, tells-some}
-use Rattle.demands.proofs.Checks.{Decides, refused, passed, decides_if, decides_at, decides_alone, decides_reworded, Finds, finds-none, finds-first}
+use Rattle.demands.proofs.Tests.{Tells, tells_below, tells_at_most, tells_not, tells_either, tells_regrouped, tells_some}
+use Rattle.demands.proofs.Checks.{Decides, refused, passed, decides_if, decides_at, decides_alone, decides_reworded, Finds, finds_none, finds_first}
 use Rattle.demands.proofs.Formed.{stop_wanted}
-use Rattle.demands.proofs.AnyJudged.{any_small, run-any-finds}
+use Rattle.demands.proofs.AnyJudged.{any_small, run_any_finds}
 use Rattle.promises.specs.CallersTable.{TableApplies, TableAnswers, TableTells, BreaksAlone, BreaksAfter, EntryBreaks, ListBreaks, AnyStopsJudged}
 
 -- The table engine.
@@ -41,18 +41,18 @@ module _ (r : Run) (rows : ListRows) where
   wants = length r.numbers
 
   -- At most 64 files: 1 to 7 are the run's own.
-  of_run : (64 < length r.starts → ⊥) → (k : Refusal) (p : ℕ) → number_of k ≤ 7 → TableApplies r rows k p → RunAppliesAny r k p
-  of_run few k p l (TableApplies.many_files h) = absurd (few h)
-  of_run few k p l (TableApplies.run h) = h
-  of_run few k p l (TableApplies.short_starts h) = absurd (omega arith)
-  of_run few k p l (TableApplies.short_ends h) = absurd (omega arith)
-  of_run few k p l (TableApplies.short_room h) = absurd (omega arith)
+  of_run_here : (64 < length r.starts → ⊥) → (k : Refusal) (p : ℕ) → number_of k ≤ 7 → TableApplies r rows k p → RunAppliesAny r k p
+  of_run_here few k p l (TableApplies.many_files h) = absurd (few h)
+  of_run_here few k p l (TableApplies.run h) = h
+  of_run_here few k p l (TableApplies.short_starts h) = absurd (omega arith)
+  of_run_here few k p l (TableApplies.short_ends h) = absurd (omega arith)
+  of_run_here few k p l (TableApplies.short_room h) = absurd (omega arith)
 
   abbrev IsShort : Type 0
   IsShort = (length rows.froms < wants - 1) ⊎ (length rows.tos < wants - 1)
 
-  tells_short : Tells (short_list_rows wants rows) IsShort
-  tells_short = tells_either (ltb (length rows.froms) (wants - 1)) (ltb (length rows.tos) (wants - 1)) (tells_below _ (wants - 1)) (tells_below _ (wants - 1))
+  tells_short_here : Tells (short_list_rows wants rows) IsShort
+  tells_short_here = tells_either (ltb (length rows.froms) (wants - 1)) (ltb (length rows.tos) (wants - 1)) (tells_below _ (wants - 1)) (tells_below _ (wants - 1))
 
   short_back : (p : ℕ) → TableApplies r rows ShortRow p → (p ≡ 0) × IsShort
   short_back p (TableApplies.run h) = absurd (omega (arith, any_small r h))
@@ -68,20 +68,20 @@ module _ (r : Run) (rows : ListRows) where
 
   later_find : Finds (TableApplies r rows) (ShortRow ∷ ShortRoom ∷ []) (first_of later-checks)
   later_find =
-      finds-first (TableApplies r rows) (refuse_if (ltb (length rows.room) (room_size r)) ShortRoom ∷ []) refl
-      (decides_reworded (λ p h. rw h.0 (⊎_elim TableApplies.short_starts TableApplies.short_ends h.1)) short_back (decides_if _ ShortRow tells_short))
-      (λ a. finds-first (TableApplies r rows) [] refl
+      finds_first (TableApplies r rows) (refuse_if (ltb (length rows.room) (room_size r)) ShortRoom ∷ []) refl
+      (decides_reworded (λ p h. rw h.0 (⊎_elim TableApplies.short_starts TableApplies.short_ends h.1)) short_back (decides_if _ ShortRow tells_short_here))
+      (λ a. finds_first (TableApplies r rows) [] refl
       (decides_reworded (λ p h. rw h.0 (TableApplies.short_room h.1)) room_back (decides_if _ ShortRoom (tells_below (length rows.room) (room_size r))))
-      (λ b. finds-none (TableApplies r rows)))
+      (λ b. finds_none (TableApplies r rows)))
 
   abbrev checks : List Verdict
   checks = refuse_if (ltb most_wants (length r.starts)) FileRows ∷ judge_any_of r ∷ later-checks
 
-  table_finds : (b : Bool) → ltb most_wants (length r.starts) ≡ b → Finds (TableApplies r rows) plan_order (first_of checks)
-  table_finds true e = rw e (here (TableApplies.many_files ((tells_below most_wants (length r.starts)).when_true e)))
-  table_finds false e =
+  table_finds_here : (b : Bool) → ltb most_wants (length r.starts) ≡ b → Finds (TableApplies r rows) plan_order (first_of checks)
+  table_finds_here true e = rw e (here (TableApplies.many_files ((tells_below most_wants (length r.starts)).when_true e)))
+  table_finds_here false e =
       rw e
-      (run-any-finds r (TableApplies r rows) (λ k p. TableApplies.run) (of_run ((tells_below most_wants (length r.starts)).when_false e))
+      (run_any_finds r (TableApplies r rows) (λ k p. TableApplies.run) (of_run_here ((tells_below most_wants (length r.starts)).when_false e))
       (ShortRow ∷ ShortRoom ∷ []) later-checks (λ a. later_find))
 
   module _ (answer : Listed) (after : ListRows) (h : Lists r rows answer after) where
@@ -91,7 +91,7 @@ module _ (r : Run) (rows : ListRows) where
         let p = h.refused e in
         let never : answer.verdict.refusal ≡ Accepted → ⊥ = λ a. true≢false (sym e ∙ ap is_refusal (sym (ap (λ x. x.verdict.refusal) p.says) ∙ a)) in
         record {
-          first = rw p.says (table_finds _ refl);
+          first = rw p.says (table_finds_here _ refl);
           kept = λ n. (ap (λ x. x.detours) p.says, p.kept);
           listed = λ a. absurd (never a);
           cleared = λ a. absurd (never a);
@@ -102,7 +102,7 @@ module _ (r : Run) (rows : ListRows) where
         let also = half_long (λ d. d.to) p.list in
         let says : answer.verdict ≡ first_of checks = ap (λ x. x.verdict) p.says ∙ sym (none_refuses checks e) in
         record {
-          first = rw says (table_finds _ refl);
+          first = rw says (table_finds_here _ refl);
           kept = λ n. absurd (n (ap (λ x. x.verdict.refusal) p.says));
           listed = λ a.
               record {
@@ -157,7 +157,7 @@ module _ (stops : List Stop) (froms tos : List ℕ) where
   entry_tells i =
       tells_either (bad_alone stops (row_entry froms tos i)) (row_clash froms tos i)
       (alone_tells stops (get_or froms i 0) (get_or tos i 0))
-      (tells-some
+      (tells_some
       (λ j. bad_after (row_entry froms tos j) (row_entry froms tos i))
       (λ j. BreaksAfter (get_or froms j 0) (get_or tos j 0) (get_or froms i 0) (get_or tos i 0))
       (λ j. after_tells (get_or froms j 0) (get_or tos j 0) (get_or froms i 0) (get_or tos i 0))
@@ -189,14 +189,14 @@ module _ (stops : List Stop) (froms tos : List ℕ) where
         (λ p h. ⊎_elim (λ u. absurd (u.1 even)) (λ f. f.1) h)
         (decides_at breaks (EntryBreaks stops froms tos) (length froms) entry_tells BadEntry)))
 
-  decides_list : (b : Bool) → eqb (length froms) (length tos) ≡ b → Decides BadEntry (ListBreaks stops froms tos) (list_verdict stops froms tos)
+  decides_list_here : (b : Bool) → eqb (length froms) (length tos) ≡ b → Decides BadEntry (ListBreaks stops froms tos) (list_verdict stops froms tos)
   unfolding list_verdict
-  decides_list true e = rw e (decides_entries (eqb-true (length froms) (length tos) e))
-  decides_list false e = refused 0 (rw e) (inl (refl, eqb-false (length froms) (length tos) e))
+  decides_list_here true e = rw e (decides_entries (eqb-true (length froms) (length tos) e))
+  decides_list_here false e = refused 0 (rw e) (inl (refl, eqb-false (length froms) (length tos) e))
 
   list_finds : Decides BadEntry (ListBreaks stops froms tos) (list_verdict stops froms tos) → Finds (λ kind. ListBreaks stops froms tos) (BadEntry ∷ []) (list_verdict stops froms tos)
   list_finds (refused p e h) = rw e (here h)
   list_finds (passed e n) = rw e (later n none)
 
 pub any_stops_judged : AnyStopsJudged
-any_stops_judged stops froms tos = list_finds stops froms tos (decides_list stops froms tos _ refl)
+any_stops_judged stops froms tos = list_finds stops froms tos (decides_list_here stops froms tos _ refl)

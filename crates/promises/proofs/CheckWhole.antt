@@ -29,13 +29,13 @@ use Rattle.sheet_lists.proofs.AnyTrip.{any_none}
 use Rattle.answer_check.specs.declared.Difference.{Difference}
 use Rattle.answer_check.specs.RunRules.{head_anywhere}
 use Rattle.answer_check.specs.Checking.{formed_yes, walk_no, least_no, found_key, expected_key, differ_from, first_difference, walk_line, difference_lines, same_list, least_line, verdict_lines, check_text}
-use Rattle.answer_check.proofs.Checked.{entry-bad}
+use Rattle.answer_check.proofs.Checked.{entry_bad}
 use Rattle.demands.specs.RefusalTable.{FirstBad}
 use Rattle.demands.specs.AnyHead.{EntryIsBadAny, ListIsBadAny}
 use Rattle.demands.proofs.Checks.{Decides, refused, passed}
 use Rattle.demands.proofs.Letters.{text_same, same_text}
-use Rattle.demands.proofs.AnyJudged.{decides-list-any}
-use Rattle.demands.proofs.AnyHead.{is-formed-any}
+use Rattle.demands.proofs.AnyJudged.{decides_list_any}
+use Rattle.demands.proofs.AnyHead.{is_formed_any}
 use Rattle.promises.specs.Checks.{Larger, FirstDiffers, FormedFor}
 use Rattle.promises.specs.CheckWhole.{LeastLine, least, larger, VerdictText, unformed, the_walk, another, CheckPrintsAll}
 use Rattle.promises.proofs.Differs.{first_differs}
@@ -126,11 +126,11 @@ module _ (plan expected : List ℕ) (n : ℕ) (is : (first_difference plan expec
 -- The first entry that breaks a rule, of rows of one length.
 first_entry : (run : Run) → refuses (judge_any_of run) ≡ false → (froms tos : List ℕ) → length froms ≡ length tos → refuses (list_verdict_any run.head (stops_of run) froms tos) ≡ true
     → FirstBad (EntryIsBadAny run froms tos) (length froms) (first_bad_entry_any run.head (stops_of run) (list_of froms tos))
-first_entry run passes froms tos even e = go (decides-list-any run (accepted_any run passes) froms tos)
+first_entry run passes froms tos even e = go (decides_list_any run (accepted_any run passes) froms tos)
   where
     go : Decides BadEntry (ListIsBadAny run froms tos) (list_verdict_any run.head (stops_of run) froms tos) → FirstBad (EntryIsBadAny run froms tos) (length froms) (first_bad_entry_any run.head (stops_of run) (list_of froms tos))
     go (refused p is h) =
-        let place : p ≡ first_bad_entry_any run.head (stops_of run) (list_of froms tos) = sym (ap (λ v. v.place) is) ∙ (entry-bad run froms tos even e).0 in
+        let place : p ≡ first_bad_entry_any run.head (stops_of run) (list_of froms tos) = sym (ap (λ v. v.place) is) ∙ (entry_bad run froms tos even e).0 in
         ⊎_elim (λ z. absurd (z.1 even)) (λ b. subst (FirstBad (EntryIsBadAny run froms tos) (length froms)) place b.1) h
     go (passed is n) = absurd (true≢false (sym e ∙ ap refuses is))
 
@@ -167,7 +167,7 @@ module _ (name : List ℕ) (run : Run) (passes : refuses (judge_any_of run) ≡ 
 
   formed_text_here : FormedFor run froms tos → VerdictText name run plan froms tos (verdict_lines head_anywhere plan expected run froms tos list)
   formed_text_here w =
-      let obeys = is-formed-any run (accepted_any run passes) own w in
+      let obeys = is_formed_any run (accepted_any run passes) own w in
       ⊎_elim
       (λ (e : is_text expected plan ≡ true). subst (VerdictText name run plan froms tos) (sym (same_lines e)) (the_walk obeys (text_same expected plan e) (least_line_here w)))
       (λ (e : is_text expected plan ≡ false).

@@ -18,7 +18,7 @@ use Rattle.runs.specs.Run.{Run, stops_of}
 use Rattle.runs.specs.Judging.{bad_place, judge_of}
 use Rattle.runs.specs.Lists.{Detour, list_of, list_verdict}
 use Rattle.runs.specs.AnyHead.{first_bad_entry_any, list_verdict_any}
-use Rattle.runs.proofs.Search.{true_or_false, first-zero}
+use Rattle.runs.proofs.Search.{true_or_false, first_zero}
 use Rattle.runs.proofs.Accepted.{good_file}
 use Rattle.runs.proofs.Judged.{accepted_run}
 use Rattle.runs.proofs.AnyHead.{sound_right, pulled_same}
@@ -38,7 +38,7 @@ use Rattle.text_lines.specs.Lines.{line_of, after_lines, line_after, first_in, s
 use Rattle.text_pages.specs.Printing.{line, number_line}
 use Rattle.sheet_reader.specs.Sheet.{sheet_run, sheet_name}
 use Rattle.sheet_reader.specs.Reading.{sheet_verdict, rule_verdict}
-use Rattle.sheet_reader.proofs.Good.{good-name}
+use Rattle.sheet_reader.proofs.Good.{good_name}
 use Rattle.sheet_reader.proofs.Rows.{length_each}
 use Rattle.sheet_writer.specs.PlanSheet.{plan_text, detour_key}
 use Rattle.sheet_writer.specs.AnyHead.{plan_any_text}
@@ -46,16 +46,16 @@ use Rattle.sheet_writer.proofs.Reread.{line_first, line_behind_lem, key_begins}
 use Rattle.sheet_writer.proofs.Plans.{text_same as plan-text-same}
 use Rattle.answer_plan.specs.Recall.{run_checks, verdict_by, recall_verdict, SheetRecalled, bytes_put, row_put}
 use Rattle.answer_any.specs.AnyRun.{any_checks, any_verdict, SheetRecalledAny}
-use Rattle.answer_any.proofs.Same.{verdict-same}
+use Rattle.answer_any.proofs.Same.{verdict_same}
 use Rattle.sheet_lists.specs.Form.{detours_told, detour_text, plan_froms, plan_tos, list_froms, list_tos}
 use Rattle.sheet_lists.specs.Reading.{plan_form, list_form}
-use Rattle.sheet_lists.proofs.AnyTrip.{any_none, any-reads-back, any-froms-back, any-tos-back}
+use Rattle.sheet_lists.proofs.AnyTrip.{any_none, any_reads_back, any_froms_back, any_tos_back}
 use Rattle.answer_check.specs.RunRules.{head_anywhere}
 use Rattle.answer_check.specs.Pricing.{price_checks, pricing_verdict, price_text, SheetPriced}
 use Rattle.answer_check.specs.Checking.{formed_yes, formed_no, walk_yes, walk_no, least_yes, least_no, first_difference, walk_line, difference_lines, same_list, least_line, verdict_lines, check_text, verdict_on, SheetChecked}
 use Rattle.demands.specs.RefusalTable.{RunApplies, NothingApplies, EntryIsBad, ListIsBad}
 use Rattle.demands.specs.AnyHead.{StartsPast, EntryIsBadAny, ListIsBadAny}
-use Rattle.demands.proofs.Judged.{nothing-judged}
+use Rattle.demands.proofs.Judged.{nothing_judged}
 use Rattle.demands.proofs.Letters.{text_same, same_text}
 use Rattle.promises.proofs.Differs.{first_differs}
 use Rattle.promises.specs.Checks.{Larger, FirstDiffers, FormedFor, CheckSaid, CheckTells, CheckPrinted, ChecksAsAll, PriceTells, StaysBy01}
@@ -80,8 +80,8 @@ module _ (froms tos : List ℕ) (even : length froms ≡ length tos) (list : Lis
       let both = and_true_both (is_text (map (λ d. d.from) list) froms) (is_text (map (λ d. d.to) list) tos) e in
       rw (text_same (map (λ d. d.from) list) froms both.0, text_same (map (λ d. d.to) list) tos both.1) (list_of_halves list)
 
-  pub same_list_here : list_of froms tos ≡ list → same_list froms tos list ≡ true
-  same_list_here e =
+  pub same_list_lem : list_of froms tos ≡ list → same_list froms tos list ≡ true
+  same_list_lem e =
       rw (same_text (map (λ d. d.from) list) froms (sym (starts_of froms tos even) ∙ ap (map (λ d. d.from)) e), same_text (map (λ d. d.to) list) tos (sym (ends_of froms tos even) ∙ ap (map (λ d. d.to)) e))
 
 pub even_plan : (plan : List ℕ) → length (plan_froms plan) ≡ length (plan_tos plan)
@@ -101,7 +101,7 @@ module _ (plan expected : List ℕ) (run : Run) (froms tos : List ℕ) (list : L
   abbrev text : List ℕ
   text = verdict_lines head_anywhere plan expected run froms tos list
 
-  text_is : text ≡ line (bytes "formed=") (bytes "yes") ++ (walk_line plan expected ++ (least_line head_anywhere run froms tos list ++ difference_lines plan expected))
+  text_is_here : text ≡ line (bytes "formed=") (bytes "yes") ++ (walk_line plan expected ++ (least_line head_anywhere run froms tos list ++ difference_lines plan expected))
   unfolding verdict_lines
   text_is = simp append_assoc
 
@@ -202,7 +202,7 @@ module _ (name : List ℕ) (run : Run) (plan froms tos : List ℕ) (even : lengt
     tells_least : (line_after 2 said ≡ bytes "least=yes") ↔ LeastAny run (list_of froms tos)
     tells_least = (
       λ h. ⊎_elim (λ (e : same_list froms tos list ≡ true). subst (λ l. LeastAny run l) (sym (list_same froms tos even list e)) least) (λ (e : same_list froms tos list ≡ false). absurd (not_least_yes _ (sym (least_not_here plan expected run froms tos list e) ∙ sym (ap (line_after 2) (formed_so w)) ∙ h))) (true_or_false (same_list froms tos list)),
-      λ e. ap (line_after 2) (formed_so w) ∙ least_so plan expected run froms tos list (same_list_here froms tos even list (least_any_unique run.turn run.head (stops_of run) (list_of froms tos) list e least)),
+      λ e. ap (line_after 2) (formed_so w) ∙ least_so plan expected run froms tos list (same_list_lem froms tos even list (least_any_unique run.turn run.head (stops_of run) (list_of froms tos) list e least)),
     )
 
     tells_by : (n : ℕ) → line_after 2 said ≡ bytes "least=no," ++ decimal n → Larger run (list_of froms tos) n
@@ -271,7 +271,7 @@ module _ (name : List ℕ) (run : Run) (list : List Detour) (least : LeastAny ru
       rw (
         eq-eqb (first_bad_entry_any run.head (stops_of run) (list_of froms tos)) 0 well_formed,
         same_text (plan_any_text name run froms tos) (plan_any_text name run froms tos) refl,
-        same_list_here froms tos (halves_even (λ d. d.from) (λ d. d.to) list) list (list_of_halves list),
+        same_list_lem froms tos (halves_even (λ d. d.from) (λ d. d.to) list) list (list_of_halves list),
       )
 
 -- What is accepted of a sheet that can be planned in some room.
@@ -298,19 +298,19 @@ module _ (sheet : List ℕ) (words : ℕ) (e : refuses (any_verdict words sheet)
     ends = map (λ d. d.to) list
 
     named : is_name (sheet_name sheet) ≡ true
-    named = good-name sheet all_pass.0
+    named = good_name sheet all_pass.0
 
     listed : refuses (list_verdict_any run.head (stops_of run) starts ends) ≡ false
     listed = any_rows_accepted (sheet_name sheet) run list least
 
-    starts_back : plan_froms plan ≡ starts
-    starts_back = ap plan_froms is ∙ any-froms-back run starts ends all_pass.1.1.0 listed (sheet_name sheet) named
+    starts_back_here : plan_froms plan ≡ starts
+    starts_back_here = ap plan_froms is ∙ any_froms_back run starts ends all_pass.1.1.0 listed (sheet_name sheet) named
 
-    ends_back : plan_tos plan ≡ ends
-    ends_back = ap plan_tos is ∙ any-tos-back run starts ends all_pass.1.1.0 listed (sheet_name sheet) named
+    ends_back_here : plan_tos plan ≡ ends
+    ends_back_here = ap plan_tos is ∙ any_tos_back run starts ends all_pass.1.1.0 listed (sheet_name sheet) named
 
     form_back : plan_form plan ≡ accepted
-    form_back = ap plan_form is ∙ any-reads-back run starts ends all_pass.1.1.0 listed (sheet_name sheet) named
+    form_back = ap plan_form is ∙ any_reads_back run starts ends all_pass.1.1.0 listed (sheet_name sheet) named
 
     pub said_all : ChecksAsAll sheet plan words
     said_all out room m out' room' c enough-room =
@@ -318,8 +318,8 @@ module _ (sheet : List ℕ) (words : ℕ) (e : refuses (any_verdict words sheet)
         let one = least_any_unique run.turn run.head (stops_of run) v.list list v.least least in
         v.says
         ∙ ap (λ l. check_text head_anywhere (sheet_name sheet) run plan (plan_froms plan) (plan_tos plan) l) one
-        ∙ ap (λ x. check_text head_anywhere (sheet_name sheet) run plan x (plan_tos plan) list) starts_back
-        ∙ ap (λ x. check_text head_anywhere (sheet_name sheet) run plan starts x list) ends_back
+        ∙ ap (λ x. check_text head_anywhere (sheet_name sheet) run plan x (plan_tos plan) list) starts_back_here
+        ∙ ap (λ x. check_text head_anywhere (sheet_name sheet) run plan starts x list) ends_back_here
         ∙ ap (λ x. check_text head_anywhere (sheet_name sheet) run x starts ends list) is
         ∙ all_yes (sheet_name sheet) run list least
 
@@ -346,7 +346,7 @@ recalled_checks sheet row n row' r e some =
     let fits = put_some r.text row n r.bytes some in
     let all = all_accept (sheet_verdict sheet ∷ rule_verdict sheet ∷ run_checks (sheet_run sheet)) e in
     let other : (kind : Refusal) → is_refusal kind ≡ true → (recall_verdict sheet).refusal ≡ kind → ⊥ = λ kind so is. true≢false (sym so ∙ ap is_refusal (sym is) ∙ e) in
-    let same = verdict-same sheet 5120 (omega arith) (other HeadPlace refl) (other ShortRoom refl) in
+    let same = verdict_same sheet 5120 (omega arith) (other HeadPlace refl) (other ShortRoom refl) in
     let judged : refuses (judge_of (sheet_run sheet)) ≡ false = all.1.1.0 in
     said_all sheet 5120 (ap refuses same ∙ e) p.list (take n row')
     (put_whole r.text row n row' r.bytes r.left fits ∙ p.says ∙ sym (plan-text-same (sheet_name sheet) (sheet_run sheet) judged _ _))
@@ -369,30 +369,30 @@ price_tells sheet list row n row' p e =
 module _ (r : Run) (nothing : NothingApplies r) where
   nothing_past : (from : ℕ) → StartsPast r from → ⊥
   nothing_past from p =
-      let good = accepted_run r (nothing-judged r nothing) in
+      let good = accepted_run r (nothing_judged r nothing) in
       let listed : p.stop - 1 < length r.starts = omega (arith, p.names.file.least, p.names.file.most) in
-      let file = good_file r.starts r.lengths (p.stop - 1) (first-zero (bad_place r.starts r.lengths) (length r.starts) good.files.table.sound (p.stop - 1) listed) in
+      let file = good_file r.starts r.lengths (p.stop - 1) (first_zero (bad_place r.starts r.lengths) (length r.starts) good.files.table.sound (p.stop - 1) listed) in
       nothing HeadPlace 0 (RunApplies.head_near p.names.file p.names.wanted (omega (arith, file.long, p.right)))
 
-  entry_bad : (froms tos : List ℕ) (i : ℕ) → EntryIsBadAny r froms tos i → EntryIsBad r froms tos i
-  entry_bad froms tos i (inl h) = h
-  entry_bad froms tos i (inr p) = absurd (nothing_past (get_or froms i 0) p)
+  entry_bad_here : (froms tos : List ℕ) (i : ℕ) → EntryIsBadAny r froms tos i → EntryIsBad r froms tos i
+  entry_bad_here froms tos i (inl h) = h
+  entry_bad_here froms tos i (inr p) = absurd (nothing_past (get_or froms i 0) p)
 
-  list_bad : (froms tos : List ℕ) (place : ℕ) → ListIsBadAny r froms tos place → ListIsBad r froms tos place
-  list_bad froms tos place (inl uneven) = inl uneven
-  list_bad froms tos place (inr h) =
-      inr (h.0, record { index = h.1.index; within = h.1.within; at = h.1.at; here = entry_bad froms tos h.1.index h.1.here; before = λ j l b. h.1.before j l (inl b) })
+  list_bad_here : (froms tos : List ℕ) (place : ℕ) → ListIsBadAny r froms tos place → ListIsBad r froms tos place
+  list_bad_here froms tos place (inl uneven) = inl uneven
+  list_bad_here froms tos place (inr h) =
+      inr (h.0, record { index = h.1.index; within = h.1.within; at = h.1.at; here = entry_bad_here froms tos h.1.index h.1.here; before = λ j l b. h.1.before j l (inl b) })
 
-  bad_list : (froms tos : List ℕ) (place : ℕ) → ListIsBad r froms tos place → ListIsBadAny r froms tos place
+  bad_list_here : (froms tos : List ℕ) (place : ℕ) → ListIsBad r froms tos place → ListIsBadAny r froms tos place
   bad_list_here froms tos place (inl uneven) = inl uneven
   bad_list_here froms tos place (inr h) =
-      inr (h.0, record { index = h.1.index; within = h.1.within; at = h.1.at; here = inl h.1.here; before = λ j l b. h.1.before j l (entry_bad froms tos j b) })
+      inr (h.0, record { index = h.1.index; within = h.1.within; at = h.1.at; here = inl h.1.here; before = λ j l b. h.1.before j l (entry_bad_here froms tos j b) })
 
 pub stays_by_01 : StaysBy01
 stays_by_01 name r nothing =
-    let judged = nothing-judged r nothing in
+    let judged = nothing_judged r nothing in
     record {
-      bad = λ froms tos place. (list_bad r nothing froms tos place, bad_list_here r nothing froms tos place);
+      bad = λ froms tos place. (list_bad_here r nothing froms tos place, bad_list_here r nothing froms tos place);
       sheet = λ froms tos. plan-text-same name r judged froms tos;
       least = λ list. (least_any_same r.turn r.head (stops_of r) (accepted_sound r judged) list, least_any_back r judged list);
     }

@@ -28,7 +28,7 @@ use Rattle.desk_tickets.specs.Filings.{in_range, most_number, number_for, ticket
 use Rattle.desk_tickets.specs.Withdrawals.{withdraw_verdict, withdraw_row}
 use Rattle.desk_tickets.proofs.Storing.{file_accepted, office_is, range_office}
 use Rattle.desk_tickets.proofs.Placed.{none_bad}
-use Rattle.desk_tickets.proofs.Kept.{Stands, sound_stands, filed_so_lem, not-filed-so, withdrawn_so_lem, not-withdrawn-so}
+use Rattle.desk_tickets.proofs.Kept.{Stands, sound_stands, filed_so_lem, not_filed_so, withdrawn_so_lem, not_withdrawn_so}
 use Rattle.desk_boardings.specs.declared.BoardedRow.{BoardedRow}
 use Rattle.desk_boardings.specs.Boarders.{row_staying, wants_of}
 use Rattle.desk_boardings.specs.Boardings.{board_run, want_rows, taken_of, not_boarded, boarded_by}
@@ -36,7 +36,7 @@ use Rattle.demands.proofs.Fits.{plan_answer, plan_rows, plans_for_every_input}
 use Rattle.demands.proofs.Demand2.{demand2_walk, demand2_least}
 use Rattle.demands.proofs.Demand3.{demand3}
 use Rattle.promises.specs.Desk.{Kept, at_first, IsTable, IsOffice, Call, filing, Fits, files, withdraws, boards, Day, over, then, departs, departures, leaving, joining, withdrawn, withdrawn_in, queue_in, given_by, given, counted_from, Fate, LeavesOn, TableStays, TableFromEmpty, NumbersCountUp, NoneGivenTwice, InOrder, StandByNumber, FreedPlaceServes, OnlyTheseTakeAway, LeavesInTime, FiledBehind, answered, RefusedChangesNothing, BoardingTakes, EveryBoardingAnswered, RefusalKeeps, OwnOfficeDecides, BoardedRunHolds}
-use Rattle.promises.proofs.DeskSteps.{step, gives, fate, not_accepted, takes, refused-is, board-accepted}
+use Rattle.promises.proofs.DeskSteps.{step, gives, fate, not_accepted, takes, refused_is, board_accepted}
 
 stays : {k last : Kept} {cs : List Call} → IsTable k → Day k cs last → IsTable last
 stays table over = table
@@ -223,12 +223,12 @@ leaves_in_time office n j k last cs o table day l is h =
 -- Whether a filing's verdict refuses is told by its answer.
 pub told : (len : ℕ) (row : List Ticket) (f : Filing) (r : FiledRow) → r ≡ file_row len row f → refuses (file_verdict len row f) ≡ is_refusal r.filed.verdict.refusal
 told len row f r e =
-    ⊎_elim (λ t. ap (λ x. is_refusal x.filed.verdict.refusal) (sym (e ∙ not-filed-so len row f t))) (λ p. ap (λ x. is_refusal x.filed.verdict.refusal) (sym (e ∙ filed_so_lem len row f p)))
+    ⊎_elim (λ t. ap (λ x. is_refusal x.filed.verdict.refusal) (sym (e ∙ not_filed_so len row f t))) (λ p. ap (λ x. is_refusal x.filed.verdict.refusal) (sym (e ∙ filed_so_lem len row f p)))
     (true_or_false (refuses (file_verdict len row f)))
 
 told_withdrawn : (len : ℕ) (row : List Ticket) (w : Withdrawal) (r : WithdrawnRow) → r ≡ withdraw_row len row w → refuses (withdraw_verdict len row w) ≡ is_refusal r.withdrawn.verdict.refusal
 told_withdrawn len row w r e =
-    ⊎_elim (λ t. ap (λ x. is_refusal x.withdrawn.verdict.refusal) (sym (e ∙ not-withdrawn-so len row w t))) (λ p. ap (λ x. is_refusal x.withdrawn.verdict.refusal) (sym (e ∙ withdrawn_so_lem len row w p)))
+    ⊎_elim (λ t. ap (λ x. is_refusal x.withdrawn.verdict.refusal) (sym (e ∙ not_withdrawn_so len row w t))) (λ p. ap (λ x. is_refusal x.withdrawn.verdict.refusal) (sym (e ∙ withdrawn_so_lem len row w p)))
     (true_or_false (refuses (withdraw_verdict len row w)))
 
 pub accepted_filing : {len : ℕ} {k next : Kept} {f : Filing} {r : FiledRow} → r.filed.verdict.refusal ≡ Accepted → Fits k (filing len f r) next → IsOffice f.office × (r.filed.number ≡ number_for f)
@@ -245,13 +245,13 @@ filed_behind len k next f r table fits accepts =
 
 pub refused_changes : {k next : Kept} {c : Call} → Fits k c next → is_refusal (answered c) ≡ true → (next.row ≡ k.row) × (next.lasts ≡ k.lasts)
 refused_changes (files {len} {k} {f} {r} l e) t =
-    let is = e ∙ not-filed-so len k.row f (told len k.row f r e ∙ t) in
+    let is = e ∙ not_filed_so len k.row f (told len k.row f r e ∙ t) in
     (ap (λ x. x.row) is, ap (λ x. x.filed.lasts) is ∙ l)
 refused_changes (withdraws {len} {k} {w} {r} l e) t =
-    let is = e ∙ not-withdrawn-so len k.row w (told_withdrawn len k.row w r e ∙ t) in
+    let is = e ∙ not_withdrawn_so len k.row w (told_withdrawn len k.row w r e ∙ t) in
     (ap (λ x. x.row) is, ap (λ x. x.withdrawn.lasts) is ∙ l)
 refused_changes (boards {len} {tape} {k} {b} {before} {after} {r} l e) t =
-    let is = refused-is len tape k.row b before after r e t in
+    let is = refused_is len tape k.row b before after r e t in
     (ap (λ x. x.row) is, ap (λ x. x.boarded.lasts) is ∙ l)
 
 pub refused_changes_nothing : RefusedChangesNothing
@@ -269,13 +269,13 @@ pub own_office_decides : OwnOfficeDecides
 own_office_decides len row row' f table table' same =
     let alike : file_verdict len row f ≡ file_verdict len row' f = verdicts len row row' f table table' same in
     ⊎_elim
-    (λ e. ap (λ x. x.filed) (not-filed-so len row f e) ∙ ap (λ v. (not_filed row f v).filed) alike ∙ sym (ap (λ x. x.filed) (not-filed-so len row' f (ap refuses (sym alike) ∙ e))))
+    (λ e. ap (λ x. x.filed) (not_filed_so len row f e) ∙ ap (λ v. (not_filed row f v).filed) alike ∙ sym (ap (λ x. x.filed) (not_filed_so len row' f (ap refuses (sym alike) ∙ e))))
     (λ e. ap (λ x. x.filed) (filed_so_lem len row f e) ∙ ap (λ v. (filed_in row f v).filed) alike ∙ sym (ap (λ x. x.filed) (filed_so_lem len row' f (ap refuses (sym alike) ∙ e))))
     (true_or_false (refuses (file_verdict len row f)))
 
 pub boarded_run_holds : BoardedRunHolds
 boarded_run_holds len tape row b before after r fits accepts =
-    let run = (fits.planned (board-accepted len tape row b before after r fits (ap is_refusal accepts))).plans in
+    let run = (fits.planned (board_accepted len tape row b before after r fits (ap is_refusal accepts))).plans in
     record {
       walk = demand2_walk _ before r.boarded.answer after run accepts;
       least = demand2_least _ before r.boarded.answer after run accepts;
@@ -286,7 +286,7 @@ pub refusal_keeps : RefusalKeeps
 unfolding priced_answer
 refusal_keeps len tape row b before after r fits some =
     let e = not_accepted r.boarded.answer.refusal some in
-    let is = refused-is len tape row b before after r fits e in
+    let is = refused_is len tape row b before after r fits e in
     (ap (λ x. x.row) is, rows e, ap (λ x. x.boarded.taken.one) is, ap (λ x. x.boarded.taken.two) is)
   where
     rows : is_refusal r.boarded.answer.refusal ≡ true → after ≡ before

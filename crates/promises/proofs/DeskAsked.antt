@@ -22,16 +22,16 @@ use Rattle.desk_tickets.specs.declared.WithdrawnRow.{WithdrawnRow}
 use Rattle.desk_tickets.specs.WaitingTable.{no_ticket, waiting}
 use Rattle.desk_tickets.specs.Withdrawals.{has_number, without_number, withdraw_verdict}
 use Rattle.desk_tickets.proofs.Storing.{office_is}
-use Rattle.desk_tickets.proofs.Leaving.{withdraw_accepted, without-here, without-later}
+use Rattle.desk_tickets.proofs.Leaving.{withdraw_accepted, without_here, without_later}
 use Rattle.answer_desk.specs.Events.{filing_key, withdraw_key, board_key, pair_event_of, event_of}
 use Rattle.desk_rows.specs.Desk.{table_in}
 use Rattle.demands.specs.Lines.{Stands, Pair, Triple}
-use Rattle.demands.proofs.Lines.{number_flat, pair_flat, triple_flat, line_read, tells-pair-line, tells-triple-line}
+use Rattle.demands.proofs.Lines.{number_flat, pair_flat, triple_flat, line_read, tells_pair_line, tells_triple_line}
 use Rattle.promises.specs.Desk.{Kept, IsOffice, filing, withdrawal, Fits, withdraws, over, then, joining, takes_back}
 use Rattle.promises.specs.DeskCases.{ticket}
 use Rattle.promises.specs.DeskAsked.{FilingAdds, WithdrawalRemoves, BoardsOnTheTape, TableIsFirst32, LastsByOffice, LineHolds, EventIsItsLine}
 use Rattle.promises.proofs.Desk.{in_order, filed_behind}
-use Rattle.promises.proofs.DeskRefusals.{withdrawn-verdict}
+use Rattle.promises.proofs.DeskRefusals.{withdrawn_verdict}
 
 pub filing_adds : FilingAdds
 filing_adds len k next f r table fits accepts =
@@ -60,7 +60,7 @@ parted n [] h = absurd (true≢false (sym h))
 parted n (t ∷ ts) h = go (parted n ts) (eqb t.number n) refl
   where
     go : (has_number n ts ≡ true → Parted n ts) → (b : Bool) → eqb t.number n ≡ b → Parted n (t ∷ ts)
-    go rest true e = record { ahead = []; one = t; behind = ts; whole = refl; is = eqb-true t.number n e; left = without-here n t ts e }
+    go rest true e = record { ahead = []; one = t; behind = ts; whole = refl; is = eqb-true t.number n e; left = without_here n t ts e }
     go rest false e =
         let p = rest (rw e at h) in
         record {
@@ -69,14 +69,14 @@ parted n (t ∷ ts) h = go (parted n ts) (eqb t.number n) refl
           behind = p.behind;
           whole = ap {B = List Ticket} (λ x. t ∷ x) p.whole;
           is = p.is;
-          left = without-later n t ts e ∙ ap {B = List Ticket} (λ x. t ∷ x) p.left;
+          left = without_later n t ts e ∙ ap {B = List Ticket} (λ x. t ∷ x) p.left;
         }
 
 accepted_withdrawal : {len : ℕ} {k next : Kept} {w : Withdrawal} {r : WithdrawnRow} → r.withdrawn.verdict.refusal ≡ Accepted → Fits k (withdrawal len w r) next
     → IsOffice w.office × (has_number w.number (waiting w.office k.row) ≡ true)
 accepted_withdrawal accepts (withdraws {len} {k} {w} {r} l e) =
     let passes : refuses (withdraw_verdict len k.row w) ≡ false =
-    ap refuses (sym (withdrawn-verdict len k.row w)) ∙ ap (λ (x : WithdrawnRow). is_refusal x.withdrawn.verdict.refusal) (sym e) ∙ ap is_refusal accepts in
+    ap refuses (sym (withdrawn_verdict len k.row w)) ∙ ap (λ (x : WithdrawnRow). is_refusal x.withdrawn.verdict.refusal) (sym e) ∙ ap is_refusal accepts in
     let a = withdraw_accepted len k.row w passes in
     (office_is w.office a.office, a.waits)
 
@@ -154,13 +154,13 @@ module _ (line : List ℕ) where
   boarding_holds e f =
       ⊎_elim
       (λ (g : is_pair_line board_key (line_of line) ≡ true).
-      let s = (tells-pair-line line 0 board_key (omega arith) refl).when_true g in
+      let s = (tells_pair_line line 0 board_key (omega arith) refl).when_true g in
       let v = pair_numbers board_key refl s in
       rw (e, f, g, v.0, v.1) (LineHolds.a_boarding s))
       (λ (g : is_pair_line board_key (line_of line) ≡ false).
       rw (e, f, g)
-      (LineHolds.no_event ((tells-triple-line line 0 filing_key (omega arith) refl).when_false e) ((tells-pair-line line 0 withdraw_key (omega arith) refl).when_false f)
-      ((tells-pair-line line 0 board_key (omega arith) refl).when_false g)))
+      (LineHolds.no_event ((tells_triple_line line 0 filing_key (omega arith) refl).when_false e) ((tells_pair_line line 0 withdraw_key (omega arith) refl).when_false f)
+      ((tells_pair_line line 0 board_key (omega arith) refl).when_false g)))
       (true_or_false (is_pair_line board_key (line_of line)))
 
   pair_holds : is_triple_line filing_key (line_of line) ≡ false → Holds
@@ -168,7 +168,7 @@ module _ (line : List ℕ) where
   pair_holds e =
       ⊎_elim
       (λ (f : is_pair_line withdraw_key (line_of line) ≡ true).
-      let s = (tells-pair-line line 0 withdraw_key (omega arith) refl).when_true f in
+      let s = (tells_pair_line line 0 withdraw_key (omega arith) refl).when_true f in
       let v = pair_numbers withdraw_key refl s in
       rw (e, f, v.0, v.1) (LineHolds.a_withdrawal s))
       (boarding_holds e)
@@ -179,7 +179,7 @@ module _ (line : List ℕ) where
   line_holds =
       ⊎_elim
       (λ (e : is_triple_line filing_key (line_of line) ≡ true).
-      let s = (tells-triple-line line 0 filing_key (omega arith) refl).when_true e in
+      let s = (tells_triple_line line 0 filing_key (omega arith) refl).when_true e in
       let v = triple_numbers s in
       rw (e, v.0, v.1, v.2) (LineHolds.a_filing s))
       pair_holds

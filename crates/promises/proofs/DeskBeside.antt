@@ -24,7 +24,7 @@ use Rattle.desk_tickets.specs.declared.Withdrawal.{Withdrawal}
 use Rattle.desk_tickets.specs.WaitingTable.{records_verdict}
 use Rattle.desk_tickets.specs.Filings.{file_verdict, file_row}
 use Rattle.desk_tickets.specs.Withdrawals.{withdraw_verdict, withdraw_row}
-use Rattle.desk_tickets.proofs.Kept.{filed_so_lem, not-filed-so}
+use Rattle.desk_tickets.proofs.Kept.{filed_so_lem, not_filed_so}
 use Rattle.desk_boardings.specs.declared.Boarding.{Boarding}
 use Rattle.desk_boardings.specs.declared.BoardedRow.{BoardedRow}
 use Rattle.desk_boardings.specs.Boarders.{Want, wants_of, file_numbers, read_counts}
@@ -37,7 +37,7 @@ use Rattle.answer_desk.specs.Days.{EventAnswered}
 use Rattle.desk_rows.specs.declared.Told.{Told}
 use Rattle.desk_rows.specs.Desk.{table_in, boarded_row}
 use Rattle.desk_rows.specs.Events.{day_of}
-use Rattle.desk_rows.proofs.Kept.{table-comes-back}
+use Rattle.desk_rows.proofs.Kept.{table_comes_back}
 use Rattle.demands.specs.Demand1.{OnlyPlace}
 use Rattle.demands.proofs.Demand1.{demand1_plan}
 use Rattle.promises.specs.Desk.{Kept, Call, filing, withdrawal, boarding, Fits, answered}
@@ -45,7 +45,7 @@ use Rattle.promises.specs.DeskRows.{LentFits, kept_in}
 use Rattle.promises.specs.DeskTells.{TextStands, AcceptedEventTells}
 use Rattle.promises.specs.DeskVerdicts.{filing_at, withdrawal_at}
 use Rattle.promises.specs.DeskBeside.{verdict_of_call, ShortRowsRefused, ShortRowsAnswered, NothingBoards, SaysNoMore, RefusedSaysNoMore, RefusedRowSaysNoMore, WantsHandedOut, BoardingHandsOutWants, RowHandsOutWants, AcceptedAnswerTells}
-use Rattle.promises.proofs.DeskSteps.{not_accepted, accepted-is, refused-is}
+use Rattle.promises.proofs.DeskSteps.{not_accepted, accepted_is, refused_is}
 use Rattle.promises.proofs.Desk.{refusal_keeps}
 use Rattle.promises.proofs.DeskDays.{day_so}
 use Rattle.promises.proofs.DeskTells.{accepted_event_tells}
@@ -103,7 +103,7 @@ short_rows_answered ts l tape room out e r exit room' out' f short some =
 no_number : (len : ℕ) (row : List Ticket) (f : Filing) → ((file_row len row f).filed.verdict.refusal ≡ Accepted → ⊥) → (file_row len row f).filed.number ≡ 0
 no_number len row f some =
     ⊎_elim
-    (λ (t : refuses (file_verdict len row f) ≡ true). ap (λ (x : FiledRow). x.filed.number) (not-filed-so len row f t))
+    (λ (t : refuses (file_verdict len row f) ≡ true). ap (λ (x : FiledRow). x.filed.number) (not_filed_so len row f t))
     (λ (p : refuses (file_verdict len row f) ≡ false).
     absurd (true≢false (sym (not_accepted _ some) ∙ ap (λ (x : FiledRow). is_refusal x.filed.verdict.refusal) (filed_so_lem len row f p) ∙ p)))
     (true_or_false (refuses (file_verdict len row f)))
@@ -120,7 +120,7 @@ module _ (len : ℕ) (tape : Tape) (row : List Ticket) (b : Boarding) (before af
 
   nothing_boards : (r.boarded.answer.refusal ≡ Accepted → ⊥) → NothingBoards before after r.boarded
   nothing_boards some =
-      let is = refused-is len tape row b before after r fits (not_accepted r.boarded.answer.refusal some) in
+      let is = refused_is len tape row b before after r fits (not_accepted r.boarded.answer.refusal some) in
       let kept = refusal_keeps len tape row b before after r fits some in
       record { plan = only_place some; taken = (kept.2, kept.3); wants = ap (λ (x : BoardedRow). x.boarded.wants) is; rows = kept.1 }
 
@@ -161,7 +161,7 @@ module _ (ws : List Want) (f : Want → ℕ) where
 
 pub boarding_hands_out_wants : BoardingHandsOutWants
 boarding_hands_out_wants len tape row b before after r fits accepts =
-    let is = ap (λ (x : BoardedRow). x.boarded.wants) (accepted-is len tape row b before after r fits (ap is_refusal accepts)) in
+    let is = ap (λ (x : BoardedRow). x.boarded.wants) (accepted_is len tape row b before after r fits (ap is_refusal accepts)) in
     let ws = wants_of row in
     subst (λ w. WantsHandedOut (board_run tape row b) w) (sym is)
     (record {
@@ -183,7 +183,7 @@ lent_tells : AcceptedEventTells → AcceptedAnswerTells
 lent_tells tells ts l tape room out e r exit room' out' f long served =
     let a = f.answered in
     let day = day_of (table_in ts) l in
-    let found : table_in exit ≡ a.day.row = ap table_in f.row ∙ table-comes-back a.day.row ts f.whole long in
+    let found : table_in exit ≡ a.day.row = ap table_in f.row ∙ table_comes_back a.day.row ts f.whole long in
     let same = day_so a.day (table_in exit) r.lasts found (ap (λ (y : Told). y.lasts) f.says) in
     let text = tells (length ts) tape day room out e a room' out' f.answers (ap (λ (y : Told). y.verdict.refusal) (sym f.says) ∙ served) in
     subst (λ (d : desk.Day). TextStands (length ts) tape day room out e d r.bytes out') (sym same)

@@ -40,17 +40,17 @@ use Rattle.answer_desk.proofs.Rooms.{wants_few, product_few}
 use Rattle.desk_rows.specs.declared.Told.{Told}
 use Rattle.desk_rows.specs.Desk.{table_in}
 use Rattle.desk_rows.specs.Events.{day_of}
-use Rattle.desk_rows.proofs.Kept.{row-keeps-its-length, later-records-kept, table-comes-back}
+use Rattle.desk_rows.proofs.Kept.{row_keeps_its_length, later_records_kept, table_comes_back}
 use Rattle.demands.specs.RefusalTable.{RunApplies, StopsFrom, FirstThatApplies}
 use Rattle.demands.specs.Demand1.{PlanApplies, plan_order}
 use Rattle.demands.proofs.Demand1.{demand1_plan}
-use Rattle.demands.proofs.Judged.{table-judged, judged-table}
+use Rattle.demands.proofs.Judged.{table_judged, judged_table}
 use Rattle.promises.specs.Desk.{Kept, at_first, IsTable, Call, filing, withdrawal, boarding, Fits, Day, answered}
 use Rattle.promises.specs.DeskRefusals.{RowApplies, FilingApplies, WithdrawalApplies}
 use Rattle.promises.specs.DeskWants.{OnlyTheRun, TapeAccepted, no_wants_on, ForTape}
 use Rattle.promises.specs.DeskDays.{RefusedEventChangesNothing, RowTakesEveryAnswer, Exchange, Turned, Held, IsCall, AreCalls, kept_at, IsADay, DayAtTheDesk, HeldOn, DeskOnALentRow, AtTheDesk, BoardsAtTheDesk}
 use Rattle.promises.proofs.Desk.{refused_changes, table_from_empty}
-use Rattle.promises.proofs.DeskRefusals.{filing_answers, withdrawal_answers, row-finds}
+use Rattle.promises.proofs.DeskRefusals.{filing_answers, withdrawal_answers, row_finds}
 use Rattle.promises.proofs.DeskTape.{refused_for_the_run_from_empty}
 
 -- A kind that refuses nothing is acceptance.
@@ -181,7 +181,7 @@ module _ (len : ℕ) (tape : Tape) (row : List Ticket) (b : Boarding) (room : Li
   boarding_not_short e =
       ⊎_elim
       (λ (t : refuses (records_verdict len row b.lasts) ≡ true).
-      never (row-finds len row b.lasts) (λ p. row_short long) (ap (λ x. x.boarded.answer.refusal) (sym (boards.refused t).says) ∙ e))
+      never (row_finds len row b.lasts) (λ p. row_short long) (ap (λ x. x.boarded.answer.refusal) (sym (boards.refused t).says) ∙ e))
       (λ (n : refuses (records_verdict len row b.lasts) ≡ false).
       never (demand1_plan (board_run tape row b) (rows_lent room) done.boarded.answer rows (boards.planned n).plans).first (λ p. plan_short (wants_few tape row b)) e)
       (true_or_false (refuses (records_verdict len row b.lasts)))
@@ -288,7 +288,7 @@ module _ (len : ℕ) (places : 32 ≤ len) (tape : Tape) (k : Kept) (cs : List C
   by_first is (FirstThatApplies.here (PlanApplies.run (RunApplies.file_rows h))) = absurd (rows_fit 0 (RunApplies.file_rows h))
   by_first is (FirstThatApplies.later a (FirstThatApplies.here h)) = AtTheDesk.bad_file
   by_first {kind} {place} is (FirstThatApplies.later a (FirstThatApplies.later f rest)) =
-      let table = judged-table (no_wants_on tape) (table-judged run (λ p h. a p (PlanApplies.run h)) (λ p h. f p (PlanApplies.run h))) in
+      let table = judged_table (no_wants_on tape) (table_judged run (λ p h. a p (PlanApplies.run h)) (λ p h. f p (PlanApplies.run h))) in
       let only = refused_for_the_run_from_empty len tape k cs b (rows_lent room) rows done day one_tape (record { rows = table.0; files = table.1 }) same boards in
       only_desk (subst (λ (x : Refusal). OnlyTheRun x) (sym is) only) (λ s. boarding_not_short len tape k.row b room done rows boards places (sym is ∙ s))
       (λ s. let last = room_last (subst (λ (x : Refusal). FirstThatApplies (PlanApplies run (rows_lent room)) plan_order x place) s (FirstThatApplies.later a (FirstThatApplies.later f rest))) in
@@ -315,9 +315,9 @@ on_the_row long HeldOn.row_ends = (Held.ends, refl)
 on_the_row {tape} {ts} {last} {l} {m} long (HeldOn.row_goes_on {next = next} {m = given} {x = x} {xs = xs} t rest) =
     let f = t.fits in
     let a = f.answered in
-    let found : table_in next ≡ a.day.row = ap table_in f.row ∙ table-comes-back a.day.row ts f.whole long in
-    let size : length next ≡ length ts = ap length f.row ∙ row-keeps-its-length a.day.row ts f.whole long in
-    let later : drop 32 next ≡ drop 32 ts = ap (λ (r : List Ticket). drop 32 r) f.row ∙ later-records-kept a.day.row ts f.whole long in
+    let found : table_in next ≡ a.day.row = ap table_in f.row ∙ table_comes_back a.day.row ts f.whole long in
+    let size : length next ≡ length ts = ap length f.row ∙ row_keeps_its_length a.day.row ts f.whole long in
+    let later : drop 32 next ≡ drop 32 ts = ap (λ (r : List Ticket). drop 32 r) f.row ∙ later_records_kept a.day.row ts f.whole long in
     let more = on_the_row (omega (arith, long, size)) rest in (
       Held.goes_on
           (record {

@@ -22,14 +22,14 @@ use Rattle.desk_rows.specs.declared.Told.{Told}
 use Rattle.desk_rows.specs.declared.ToldRow.{ToldRow}
 use Rattle.desk_rows.specs.Desk.{table_in}
 use Rattle.desk_rows.specs.Events.{day_of, LentAnswered}
-use Rattle.desk_rows.proofs.Kept.{later-records-kept, table-comes-back}
+use Rattle.desk_rows.proofs.Kept.{later_records_kept, table_comes_back}
 use Rattle.promises.specs.Desk.{Kept, Call, filing, withdrawal, boarding, Fits, answered}
 use Rattle.promises.specs.DeskDays.{IsCall, kept_at}
 use Rattle.promises.specs.DeskTells.{boarding_at}
 use Rattle.promises.specs.DeskVerdicts.{filing_at, withdrawal_at}
 use Rattle.promises.specs.DeskEvents.{ItsCall, EventIsItsCall, LentIsItsCall, HeldIsItsCall}
 use Rattle.promises.proofs.DeskDays.{accepts, day_so}
-use Rattle.promises.proofs.DeskTells.{told-so, day-is}
+use Rattle.promises.proofs.DeskTells.{told_so, day_is}
 use Rattle.promises.proofs.DeskBeside.{short_rows_answered}
 
 module _ (tape : Tape) (day : desk.Day) (out : List ℕ) (r : Answered) (out' : List ℕ) (served : r.verdict.refusal ≡ Accepted) where
@@ -39,8 +39,8 @@ module _ (tape : Tape) (day : desk.Day) (out : List ℕ) (r : Answered) (out' : 
       record {
         call = c;
         is = is;
-        accepts = sym same ∙ accepts o.verdict.refusal (told-so day o room out r room' out' a served).0;
-        fits = subst (λ (d : desk.Day). Fits (kept_at day) c (kept_at d)) (sym (day-is day o room out r room' out' a served)) fits;
+        accepts = sym same ∙ accepts o.verdict.refusal (told_so day o room out r room' out' a served).0;
+        fits = subst (λ (d : desk.Day). Fits (kept_at day) c (kept_at d)) (sym (day_is day o room out r room' out' a served)) fits;
       }
 
 not_none : (len : ℕ) (tape : Tape) (day : desk.Day) (room out : List ℕ) (e : Event) (r : Answered) (room' out' : List ℕ) → EventAnswered len tape day room out e r room' out' → r.verdict.refusal ≡ Accepted → e ≡ Event.Bad → ⊥
@@ -77,10 +77,10 @@ pub lent_is_its_call : LentIsItsCall
 lent_is_its_call ts l tape room out e r exit room' out' f served =
     let a = f.answered in
     let long = row_long ts l tape room out e r exit room' out' f served in
-    let found : table_in exit ≡ a.day.row = ap table_in f.row ∙ table-comes-back a.day.row ts f.whole long in
+    let found : table_in exit ≡ a.day.row = ap table_in f.row ∙ table_comes_back a.day.row ts f.whole long in
     let call = event_is_its_call (length ts) tape (day_of (table_in ts) l) room out e a room' out' f.answers (ap (λ (y : Told). y.verdict.refusal) (sym f.says) ∙ served) in (
       subst (λ (d : desk.Day). ItsCall tape e (kept_at (day_of (table_in ts) l)) (kept_at d)) (sym (day_so a.day (table_in exit) r.lasts found (ap (λ (y : Told). y.lasts) f.says))) call,
-      ap (λ (row : List Ticket). drop 32 row) f.row ∙ later-records-kept a.day.row ts f.whole long,
+      ap (λ (row : List Ticket). drop 32 row) f.row ∙ later_records_kept a.day.row ts f.whole long,
     )
 
 pub held_is_its_call : HeldIsItsCall

@@ -19,7 +19,7 @@ use Rattle.desk_boardings.specs.Boarders.{Want, want_of, add_want, with_wants, w
 use Rattle.desk_boardings.specs.Boardings.{Tape, eight, Boards}
 use Rattle.desk_boardings.proofs.Adding.{by_order}
 use Rattle.answer_desk.specs.Answers.{place_in}
-use Rattle.promises.proofs.DeskSteps.{board-accepted}
+use Rattle.promises.proofs.DeskSteps.{board_accepted}
 use Rattle.promises.specs.DeskLines.{TicketsHaveWants}
 
 -- A file stands among some numbers.
@@ -99,7 +99,7 @@ not_moved f (n ∷ ns) ms h =
 -- The numbers that an accepted boarding tells: those of the wants, and zeros.
 module _ (len : ℕ) (tape : Tape) (row : List Ticket) (b : Boarding) (before after : Rows) (r : BoardedRow) (boards : Boards len tape row b before r after) (e : is_refusal r.boarded.answer.refusal ≡ false) where
   pub numbers_told : r.boarded.wants.numbers ≡ eight (file_numbers (wants_of row))
-  numbers_told = ap (λ (x : BoardedRow). x.boarded.wants.numbers) (boards.planned (board-accepted len tape row b before after r boards e)).says ∙ rw e
+  numbers_told = ap (λ (x : BoardedRow). x.boarded.wants.numbers) (boards.planned (board_accepted len tape row b before after r boards e)).says ∙ rw e
 
 pub tickets_have_wants : TicketsHaveWants
 unfolding wants_of

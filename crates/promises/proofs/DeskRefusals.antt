@@ -12,7 +12,7 @@ use lib.Seq.{get_or-take, length-take-le, take_at}
 use Rattle.refusals.specs.declared.Refusal.TheVariants.{ShortRow, BadTicket, OfficeFull, NotWaiting, NumbersSpent, BadRecord}
 use Rattle.refusals.specs.Refusals.{is_refusal, refuse_if, refuse_at, first_where}
 use Rattle.refusals.proofs.Verdicts.{refuses}
-use Rattle.runs.proofs.Search.{true_or_false, first-zero, first_all}
+use Rattle.runs.proofs.Search.{true_or_false, first_zero, first_all}
 use Rattle.runs.specs.Run.{most_files}
 use Rattle.desk_tickets.specs.declared.Ticket.{Ticket}
 use Rattle.desk_tickets.specs.declared.Lasts.{Lasts}
@@ -21,13 +21,13 @@ use Rattle.desk_tickets.specs.declared.Withdrawal.{Withdrawal}
 use Rattle.desk_tickets.specs.WaitingTable.{offices, places, all_places, most_count, no_ticket, is_empty_place, up_to, is_ticket, follows, last_of, office_at, is_first_place, is_out_of_turn, bad_record, waiting, records_verdict}
 use Rattle.desk_tickets.specs.Filings.{in_range, is_full, most_number, is_spent, file_verdict, file_row}
 use Rattle.desk_tickets.specs.Withdrawals.{has_number, is_waiting, withdraw_verdict, withdraw_row}
-use Rattle.desk_tickets.proofs.Sound.{empty_is, row-sound}
+use Rattle.desk_tickets.proofs.Sound.{empty_is, row_sound}
 use Rattle.desk_tickets.proofs.Placed.{padded_at, none_bad}
-use Rattle.desk_tickets.proofs.Kept.{filed_so_lem, not-filed-so, withdrawn_so_lem, not-withdrawn-so}
+use Rattle.desk_tickets.proofs.Kept.{filed_so_lem, not_filed_so, withdrawn_so_lem, not_withdrawn_so}
 use Rattle.desk_boardings.specs.Boardings.{board_run}
 use Rattle.demands.specs.RefusalTable.{FirstBad}
 use Rattle.demands.proofs.Tests.{Tells, tells_equal, tells_below, tells_at_most, tells_not, tells_either, tells_both, tells_reworded}
-use Rattle.demands.proofs.Checks.{Decides, decides_if, decides_at, decides_reworded, Finds, finds-none, finds-first, first_of_joined, refused-iff}
+use Rattle.demands.proofs.Checks.{Decides, decides_if, decides_at, decides_reworded, Finds, finds_none, finds_first, first_of_joined, refused_iff}
 use Rattle.demands.proofs.Demand1.{demand1_plan}
 use Rattle.promises.specs.DeskRefusals.{Within, IsTicketOf, Follows, RecordIsBad, RowApplies, short_row, bad_record, row_order, RowJudged, InRange, FilingApplies, records, out_of_range, office_full, numbers_spent, filing_order, FilingAnswers, IsAmong, IsWaiting, WithdrawalApplies, of_the_row, not_waiting, withdrawal_order, WithdrawalAnswers, BoardingAnswers, IsTableOf, BadRecordIsFirstSuch}
 use Rattle.promises.proofs.DeskSteps.{not_accepted}
@@ -94,8 +94,8 @@ module _ (len : ℕ) (row : List Ticket) (l : Lasts) where
   pub row_finds : Finds (RowApplies len row l) row_order (records_verdict len row l)
   unfolding records_verdict
   row_finds =
-      finds-first (RowApplies len row l) (refuse_at (first_where (bad_record l row) all_places) BadRecord ∷ []) refl decides_short
-      (λ a. finds-first (RowApplies len row l) [] refl decides_bad (λ b. finds-none (RowApplies len row l)))
+      finds_first (RowApplies len row l) (refuse_at (first_where (bad_record l row) all_places) BadRecord ∷ []) refl decides_short
+      (λ a. finds_first (RowApplies len row l) [] refl decides_bad (λ b. finds_none (RowApplies len row l)))
 
 pub row_judged : RowJudged
 row_judged = row_finds
@@ -134,16 +134,16 @@ module _ (len : ℕ) (row : List Ticket) (f : Filing) where
       let full = refuse_if (is_full f.office row) OfficeFull in
       let spent = refuse_if (is_spent f.office f.lasts) NumbersSpent in
       rw (first_of_joined (short ∷ bad ∷ []) (range ∷ full ∷ spent ∷ []))
-      (finds-first (FilingApplies len row f) (bad ∷ range ∷ full ∷ spent ∷ []) refl (decides_reworded (λ p h. records h) short_filed (decides_short len row f.lasts))
-      (λ a. finds-first (FilingApplies len row f) (range ∷ full ∷ spent ∷ []) refl (decides_reworded (λ p h. records h) bad_filed (decides_bad len row f.lasts))
-      (λ b. finds-first (FilingApplies len row f) (full ∷ spent ∷ []) refl (decides_reworded range_there range_back (decides_if (not (in_range f)) BadTicket (tells_not (in_range f) (tells_ranged f))))
-      (λ c. finds-first (FilingApplies len row f) (spent ∷ []) refl (decides_reworded full_there full_back (decides_if (is_full f.office row) OfficeFull (tells_at_most places (length (waiting f.office row)))))
-      (λ d. finds-first (FilingApplies len row f) [] refl (decides_reworded spent_there spent_back (decides_if (is_spent f.office f.lasts) NumbersSpent (tells_at_most most_number (last_of f.office f.lasts))))
-      (λ e. finds-none (FilingApplies len row f)))))))
+      (finds_first (FilingApplies len row f) (bad ∷ range ∷ full ∷ spent ∷ []) refl (decides_reworded (λ p h. records h) short_filed (decides_short len row f.lasts))
+      (λ a. finds_first (FilingApplies len row f) (range ∷ full ∷ spent ∷ []) refl (decides_reworded (λ p h. records h) bad_filed (decides_bad len row f.lasts))
+      (λ b. finds_first (FilingApplies len row f) (full ∷ spent ∷ []) refl (decides_reworded range_there range_back (decides_if (not (in_range f)) BadTicket (tells_not (in_range f) (tells_ranged f))))
+      (λ c. finds_first (FilingApplies len row f) (spent ∷ []) refl (decides_reworded full_there full_back (decides_if (is_full f.office row) OfficeFull (tells_at_most places (length (waiting f.office row)))))
+      (λ d. finds_first (FilingApplies len row f) [] refl (decides_reworded spent_there spent_back (decides_if (is_spent f.office f.lasts) NumbersSpent (tells_at_most most_number (last_of f.office f.lasts))))
+      (λ e. finds_none (FilingApplies len row f)))))))
 
   filed_verdict : (file_row len row f).filed.verdict ≡ file_verdict len row f
   filed_verdict =
-      ⊎_elim (λ e. ap (λ x. x.filed.verdict) (not-filed-so len row f e)) (λ e. ap (λ x. x.filed.verdict) (filed_so_lem len row f e)) (true_or_false (refuses (file_verdict len row f)))
+      ⊎_elim (λ e. ap (λ x. x.filed.verdict) (not_filed_so len row f e)) (λ e. ap (λ x. x.filed.verdict) (filed_so_lem len row f e)) (true_or_false (refuses (file_verdict len row f)))
 
 pub filing_answers : FilingAnswers
 filing_answers len row f r is = rw (ap (λ x. x.filed.verdict) is ∙ filed_verdict len row f) (filing_finds len row f)
@@ -186,14 +186,14 @@ module _ (len : ℕ) (row : List Ticket) (w : Withdrawal) where
       let bad = refuse_at (first_where (bad_record w.lasts row) all_places) BadRecord in
       let gone = refuse_if (not (is_waiting w.office w.number row)) NotWaiting in
       rw (first_of_joined (short ∷ bad ∷ []) (gone ∷ []))
-      (finds-first (WithdrawalApplies len row w) (bad ∷ gone ∷ []) refl (decides_reworded (λ p h. of_the_row h) short_withdrawn (decides_short len row w.lasts))
-      (λ a. finds-first (WithdrawalApplies len row w) (gone ∷ []) refl (decides_reworded (λ p h. of_the_row h) bad_withdrawn (decides_bad len row w.lasts))
-      (λ b. finds-first (WithdrawalApplies len row w) [] refl (decides_reworded waiting_there waiting_back (decides_if (not (is_waiting w.office w.number row)) NotWaiting (tells_not (is_waiting w.office w.number row) tells_waiting)))
-      (λ c. finds-none (WithdrawalApplies len row w)))))
+      (finds_first (WithdrawalApplies len row w) (bad ∷ gone ∷ []) refl (decides_reworded (λ p h. of_the_row h) short_withdrawn (decides_short len row w.lasts))
+      (λ a. finds_first (WithdrawalApplies len row w) (gone ∷ []) refl (decides_reworded (λ p h. of_the_row h) bad_withdrawn (decides_bad len row w.lasts))
+      (λ b. finds_first (WithdrawalApplies len row w) [] refl (decides_reworded waiting_there waiting_back (decides_if (not (is_waiting w.office w.number row)) NotWaiting (tells_not (is_waiting w.office w.number row) tells_waiting)))
+      (λ c. finds_none (WithdrawalApplies len row w)))))
 
   pub withdrawn_verdict : (withdraw_row len row w).withdrawn.verdict ≡ withdraw_verdict len row w
   withdrawn_verdict =
-      ⊎_elim (λ e. ap (λ x. x.withdrawn.verdict) (not-withdrawn-so len row w e)) (λ e. ap (λ x. x.withdrawn.verdict) (withdrawn_so_lem len row w e))
+      ⊎_elim (λ e. ap (λ x. x.withdrawn.verdict) (not_withdrawn_so len row w e)) (λ e. ap (λ x. x.withdrawn.verdict) (withdrawn_so_lem len row w e))
       (true_or_false (refuses (withdraw_verdict len row w)))
 
 pub withdrawal_answers : WithdrawalAnswers
@@ -202,7 +202,7 @@ withdrawal_answers len row w r is = rw (ap (λ x. x.withdrawn.verdict) is ∙ wi
 -- A boarding: the row's verdict, or the planner's answer.
 pub boarding_answers : BoardingAnswers
 boarding_answers len tape row b before after r fits =
-    let iff = refused-iff (RowApplies len row b.lasts) (row_finds len row b.lasts) (refl, (refl, tt)) in
+    let iff = refused_iff (RowApplies len row b.lasts) (row_finds len row b.lasts) (refl, (refl, tt)) in
     record {
       records = λ some.
           let says = (fits.refused (not_accepted (records_verdict len row b.lasts).refusal (iff.1 some))).says in
@@ -232,7 +232,7 @@ bad_record_is_first_such l row p all bad =
     absent : (table : List Ticket) → IsTableOf l table → take (suc bad.index) table ≡ take (suc bad.index) row → ⊥
     absent table is same =
         let i = bad.index in
-        let fine : bad_record l table i ≡ false = first-zero (bad_record l table) all_places (none_bad l (waiting 1 table) (waiting 2 table) table is) i bad.within in
+        let fine : bad_record l table i ≡ false = first_zero (bad_record l table) all_places (none_bad l (waiting 1 table) (waiting 2 table) table is) i bad.within in
         let here = same_front (suc i) i row table same (omega arith) in
         let there = same_front (suc i) (i - 1) row table same (omega arith) in
         (tells_bad l row i).when_false (sym (bad_same l table row i here there) ∙ fine) bad.here
@@ -242,7 +242,7 @@ bad_record_is_first_such l row p all bad =
 
     made : (q : ℕ) → (q ≤ bad.index) × (q ≤ 32) → IsTableOf l (take q row ++ replicate (32 - q) no_ticket)
     made q h =
-        row-sound l (take q row ++ replicate (32 - q) no_ticket)
+        row_sound l (take q row ++ replicate (32 - q) no_ticket)
         (length-append (take q row) (replicate (32 - q) no_ticket) ∙ omega (arith, length-take-le q row (rw all h.1), length-replicate (32 - q) no_ticket, h.1))
         (first_all (bad_record l (take q row ++ replicate (32 - q) no_ticket)) all_places
         (λ i _. elim (dec_lt i q) [ yes b ↦ before i b | no n ↦ behind i (omega arith) ]))

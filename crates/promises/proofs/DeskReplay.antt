@@ -197,10 +197,10 @@ turned_alike tape day next next₂ x y t u same =
     let moved = subst (λ (line : List ℕ). EventAnswered u.len tape day u.room u.out (event_of (line_of line)) u.result u.room' u.out') same u.fits in
     let e = answered_alike tape day t.len u.len t.room u.room t.out u.out t.room' u.room' t.out' u.out' t.result u.result
     t.places u.places t.words u.words t.bytes u.bytes (event_of (line_of x.line)) t.fits moved in
-    (u.leaves ∙ ap (λ (a : Answered). a.day) (sym e) ∙ sym t.leaves, told_so x y same (u.says ∙ ap (λ (a : Answered). a.verdict.refusal) (sym e) ∙ sym t.says))
+    (u.leaves ∙ ap (λ (a : Answered). a.day) (sym e) ∙ sym t.leaves, told_so_here x y same (u.says ∙ ap (λ (a : Answered). a.verdict.refusal) (sym e) ∙ sym t.says))
   where
-    told_so : (x y : Exchange) → y.line ≡ x.line → y.answer ≡ x.answer → y ≡ x
-    told_so x y p q = rw (p, q)
+    told_so_here : (x y : Exchange) → y.line ≡ x.line → y.answer ≡ x.answer → y ≡ x
+    told_so_here x y p q = rw (p, q)
 
 -- Two days from one table: one with all calls, the other with those that were accepted.
 first_line_lem : (x y : Exchange) (xs ys : List Exchange) → lines_of (x ∷ xs) ≡ lines_of (y ∷ ys) → x.line ≡ y.line

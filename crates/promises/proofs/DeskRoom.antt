@@ -22,21 +22,21 @@ use Rattle.desk_rows.specs.declared.ToldRow.{ToldRow}
 use Rattle.desk_rows.specs.Desk.{table_in}
 use Rattle.desk_rows.specs.Events.{day_of}
 use Rattle.demands.specs.Behind.{BehindPlan}
-use Rattle.demands.proofs.Counted.{has-stops}
-use Rattle.demands.proofs.Planned.{run-accepted}
+use Rattle.demands.proofs.Counted.{has_stops}
+use Rattle.demands.proofs.Planned.{run_accepted}
 use Rattle.demands.proofs.Behind.{plan_behind}
 use Rattle.promises.specs.DeskTells.{boarding_at}
 use Rattle.promises.specs.Rooms.{RoomOfPlan}
 use Rattle.promises.specs.DeskRoom.{EventLeavesTheRoom, LentLeavesTheRoom, ProgramLeavesTheRoom}
-use Rattle.promises.proofs.DeskSteps.{board-accepted}
+use Rattle.promises.proofs.DeskSteps.{board_accepted}
 use Rattle.promises.proofs.DeskDays.{accepts}
-use Rattle.promises.proofs.DeskTells.{told-so}
+use Rattle.promises.proofs.DeskTells.{told_so}
 
 -- A boarding that is accepted is planned, and leaves its rows and the room as the plan does.
 module _ (len : ℕ) (tape : Tape) (row : List Ticket) (b : Boarding) (before after : Rows) (r : BoardedRow) (boards : Boards len tape row b before r after)
     (accepted : r.boarded.answer.refusal ≡ Accepted) where
   plans : Plans (board_run tape row b) before r.boarded.answer after
-  plans = (boards.planned (board-accepted len tape row b before after r boards (ap is_refusal accepted))).plans
+  plans = (boards.planned (board_accepted len tape row b before after r boards (ap is_refusal accepted))).plans
 
   pub boarded_behind : BehindPlan (board_run tape row b) r.boarded.answer.detours before after
   boarded_behind = plan_behind (board_run tape row b) before r.boarded.answer after plans accepted
@@ -44,14 +44,14 @@ module _ (len : ℕ) (tape : Tape) (row : List Ticket) (b : Boarding) (before af
   room_of_plan : RoomOfPlan (board_run tape row b) before.room after.room
   room_of_plan =
       let run = board_run tape row b in
-      let stops = has-stops run (accepted_run run (run-accepted run before r.boarded.answer after plans accepted)) in
+      let stops = has_stops run (accepted_run run (run_accepted run before r.boarded.answer after plans accepted)) in
       record { stops = length (stops_of run); are = stops; left = boarded_behind.room (length (stops_of run)) stops }
 
 pub event_leaves_the_room : EventLeavesTheRoom
 event_leaves_the_room len tape day room out (Event.File o f c) r room' out' p served = p.1
 event_leaves_the_room len tape day room out (Event.Withdraw o n) r room' out' p served = p.1
 event_leaves_the_room len tape day room out (Event.Board head turn) r room' out' p served =
-    let told = told-so day _ room out r room' out' p.answers served in
+    let told = told_so day _ room out r room' out' p.answers served in
     let b = boarding_at day head turn in
     subst (RoomOfPlan (board_run tape day.row b) room) (sym told.2.left)
     (room_of_plan len tape day.row b (rows_lent room) p.rows p.done p.boards (accepts p.done.boarded.answer.refusal told.0))

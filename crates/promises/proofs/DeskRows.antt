@@ -21,14 +21,14 @@ use Rattle.desk_tickets.specs.Filings.{file_verdict, file_row}
 use Rattle.desk_tickets.specs.Withdrawals.{withdraw_verdict, withdraw_row}
 use Rattle.desk_tickets.proofs.Storing.{accepted_sound, file_accepted}
 use Rattle.desk_tickets.proofs.Leaving.{withdraw_accepted}
-use Rattle.desk_tickets.proofs.Kept.{not-filed-so, not-withdrawn-so}
+use Rattle.desk_tickets.proofs.Kept.{not_filed_so, not_withdrawn_so}
 use Rattle.desk_boardings.specs.declared.BoardedRow.{BoardedRow}
 use Rattle.desk_boardings.specs.Boardings.{Boards}
 use Rattle.desk_rows.specs.Desk.{table_in, with_table, boarded_row}
-use Rattle.desk_rows.proofs.Kept.{row-keeps-its-length, later-records-kept, table-comes-back}
+use Rattle.desk_rows.proofs.Kept.{row_keeps_its_length, later_records_kept, table_comes_back}
 use Rattle.promises.specs.Desk.{Kept, IsTable, Call, Fits, Day}
 use Rattle.promises.specs.DeskRows.{LentFits, LentDay, kept_in, DayOnALentRow}
-use Rattle.promises.proofs.DeskSteps.{board-accepted, refused-is}
+use Rattle.promises.proofs.DeskSteps.{board_accepted, refused_is}
 use Rattle.promises.proofs.Desk.{table_stays}
 
 placed_length : (ts : List Ticket) → length ts ≤ places → length (placed ts) ≡ places
@@ -63,18 +63,18 @@ module _ (k : Kept) (all : length k.row ≡ 32) where
       by_answer : {next : Kept} {c : Call} → Fits k c next → Fits k c next → length next.row ≡ 32
       by_answer {next} (Fits.files {len = len} {f = f} {r = r} last is) fits =
           ⊎_elim
-          (λ t. ap (λ (x : FiledRow). length x.row) (is ∙ not-filed-so len k.row f t) ∙ all)
+          (λ t. ap (λ (x : FiledRow). length x.row) (is ∙ not_filed_so len k.row f t) ∙ all)
           (λ p. table_whole next (call_stays k next _ (found_sound len f.lasts last (file_accepted len k.row f p).table) fits))
           (true_or_false (refuses (file_verdict len k.row f)))
       by_answer {next} (Fits.withdraws {len = len} {w = w} {r = r} last is) fits =
           ⊎_elim
-          (λ t. ap (λ (x : WithdrawnRow). length x.row) (is ∙ not-withdrawn-so len k.row w t) ∙ all)
+          (λ t. ap (λ (x : WithdrawnRow). length x.row) (is ∙ not_withdrawn_so len k.row w t) ∙ all)
           (λ p. table_whole next (call_stays k next _ (found_sound len w.lasts last (withdraw_accepted len k.row w p).table) fits))
           (true_or_false (refuses (withdraw_verdict len k.row w)))
       by_answer {next} (Fits.boards {len = len} {tape = tape} {b = b} {before = before} {after = after} {r = r} last boards) fits =
           ⊎_elim
-          (λ t. ap (λ (x : BoardedRow). length x.row) (refused-is len tape k.row b before after r boards t) ∙ all)
-          (λ p. table_whole next (call_stays k next _ (found_sound len b.lasts last (board-accepted len tape k.row b before after r boards p)) fits))
+          (λ t. ap (λ (x : BoardedRow). length x.row) (refused_is len tape k.row b before after r boards t) ∙ all)
+          (λ p. table_whole next (call_stays k next _ (found_sound len b.lasts last (board_accepted len tape k.row b before after r boards p)) fits))
           (true_or_false (is_refusal r.boarded.answer.refusal))
 
 -- What a call on the row is, once the table that it leaves has 32 records.
@@ -93,9 +93,9 @@ record Back (ts exit table : List Ticket) : Type 0 where
 back : (ts exit table : List Ticket) → 32 ≤ length ts → length table ≡ 32 → exit ≡ with_table table ts → Back ts exit table
 back ts exit table long whole is =
     record {
-      found = ap table_in is ∙ table-comes-back table ts whole long;
-      long = ap length is ∙ row-keeps-its-length table ts whole long;
-      later = ap (λ (row : List Ticket). drop 32 row) is ∙ later-records-kept table ts whole long;
+      found = ap table_in is ∙ table_comes_back table ts whole long;
+      long = ap length is ∙ row_keeps_its_length table ts whole long;
+      later = ap (λ (row : List Ticket). drop 32 row) is ∙ later_records_kept table ts whole long;
     }
 
 record OneCall (ts : List Ticket) (l : Lasts) (c : Call) (next : List Ticket) (m : Lasts) : Type 0 where

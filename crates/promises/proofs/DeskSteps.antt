@@ -26,8 +26,8 @@ use Rattle.desk_tickets.specs.WaitingTable.{no_ticket, last_of, waiting, records
 use Rattle.desk_tickets.specs.Filings.{file_verdict, number_for, lasts_with, ticket_of, with_ticket, row_with_ticket, not_filed, filed_in, file_row}
 use Rattle.desk_tickets.specs.Withdrawals.{without_number, withdraw_verdict, without_ticket, row_left, withdraw_row}
 use Rattle.desk_tickets.proofs.Storing.{file_accepted, office_is, range_office}
-use Rattle.desk_tickets.proofs.Leaving.{withdraw_accepted, without-here, without-later}
-use Rattle.desk_tickets.proofs.Kept.{Stands, Holds, without_holds, file_holds, withdraw_holds, filed_so_lem, not-filed-so, withdrawn_so_lem, not-withdrawn-so}
+use Rattle.desk_tickets.proofs.Leaving.{withdraw_accepted, without_here, without_later}
+use Rattle.desk_tickets.proofs.Kept.{Stands, Holds, without_holds, file_holds, withdraw_holds, filed_so_lem, not_filed_so, withdrawn_so_lem, not_withdrawn_so}
 use Rattle.desk_boardings.specs.declared.Boarding.{Boarding}
 use Rattle.desk_boardings.specs.declared.BoardedRow.{BoardedRow}
 use Rattle.desk_boardings.specs.Boarders.{share, share_one, share_two, row_staying, wants_of}
@@ -100,8 +100,8 @@ with_joining false ts t = sym (append-nil ts)
 
 -- A filing, whatever it answers.
 module _ (office len : ℕ) (row : List Ticket) (f : Filing) (o : IsOffice office) (table : Stands f.lasts row) where
-  filing_refused : refuses (file_verdict len row f) ≡ true → Step office row row (filing len f (not_filed row f (file_verdict len row f)))
-  filing_refused e = record { queue = rw e (sym (append-nil (waiting office row))); there = omega arith; four = λ d. absurd (true≢false (sym d)); only = λ d. refl }
+  filing_refused_here : refuses (file_verdict len row f) ≡ true → Step office row row (filing len f (not_filed row f (file_verdict len row f)))
+  filing_refused_here e = record { queue = rw e (sym (append-nil (waiting office row))); there = omega arith; four = λ d. absurd (true≢false (sym d)); only = λ d. refl }
 
   filed_holds : refuses (file_verdict len row f) ≡ false
       → Holds (lasts_with f.office (number_for f) f.lasts) (with_ticket 1 (ticket_of f) (waiting 1 row)) (with_ticket 2 (ticket_of f) (waiting 2 row)) (row_with_ticket (ticket_of f) row)
@@ -117,7 +117,7 @@ module _ (office len : ℕ) (row : List Ticket) (f : Filing) (o : IsOffice offic
   filing_step : (r : FiledRow) → r ≡ file_row len row f → Step office row r.row (filing len f r) × Stands r.filed.lasts r.row
   filing_step r is =
       ⊎_elim
-      (λ e. subst (λ (x : FiledRow). Step office row x.row (filing len f x) × Stands x.filed.lasts x.row) (sym (is ∙ not-filed-so len row f e)) (filing_refused e, table))
+      (λ e. subst (λ (x : FiledRow). Step office row x.row (filing len f x) × Stands x.filed.lasts x.row) (sym (is ∙ not_filed_so len row f e)) (filing_refused_here e, table))
       (λ e. subst (λ (x : FiledRow). Step office row x.row (filing len f x) × Stands x.filed.lasts x.row) (sym (is ∙ filed_so_lem len row f e)) (filing_accepted e, (filed_holds e).sound))
       (true_or_false (refuses (file_verdict len row f)))
 
@@ -126,8 +126,8 @@ module _ (office len : ℕ) (row : List Ticket) (w : Withdrawal) (o : IsOffice o
   abbrev answer : List Ticket → WithdrawnRow
   answer next = record { withdrawn = record { verdict = withdraw_verdict len row w; lasts = w.lasts }; row = next }
 
-  withdrawal_refused : refuses (withdraw_verdict len row w) ≡ true → Step office row row (withdrawal len w (answer row))
-  withdrawal_refused e = record { queue = rw e (sym (append-nil (waiting office row))); there = omega arith; four = λ d. absurd (true≢false (sym d)); only = λ d. refl }
+  withdrawal_refused_here : refuses (withdraw_verdict len row w) ≡ true → Step office row row (withdrawal len w (answer row))
+  withdrawal_refused_here e = record { queue = rw e (sym (append-nil (waiting office row))); there = omega arith; four = λ d. absurd (true≢false (sym d)); only = λ d. refl }
 
   left_holds : refuses (withdraw_verdict len row w) ≡ false → Holds w.lasts (without_ticket 1 w (waiting 1 row)) (without_ticket 2 w (waiting 2 row)) (row_left w row)
   left_holds e = let a = withdraw_accepted len row w e in withdraw_holds row w table a.office a.waits
@@ -143,7 +143,7 @@ module _ (office len : ℕ) (row : List Ticket) (w : Withdrawal) (o : IsOffice o
   withdrawal_step : (r : WithdrawnRow) → r ≡ withdraw_row len row w → Step office row r.row (withdrawal len w r) × Stands r.withdrawn.lasts r.row
   withdrawal_step r is =
       ⊎_elim
-      (λ e. subst (λ (x : WithdrawnRow). Step office row x.row (withdrawal len w x) × Stands x.withdrawn.lasts x.row) (sym (is ∙ not-withdrawn-so len row w e)) (withdrawal_refused e, table))
+      (λ e. subst (λ (x : WithdrawnRow). Step office row x.row (withdrawal len w x) × Stands x.withdrawn.lasts x.row) (sym (is ∙ not_withdrawn_so len row w e)) (withdrawal_refused_here e, table))
       (λ e. subst (λ (x : WithdrawnRow). Step office row x.row (withdrawal len w x) × Stands x.withdrawn.lasts x.row) (sym (is ∙ withdrawn_so_lem len row w e)) (withdrawal_accepted e, (left_holds e).sound))
       (true_or_false (refuses (withdraw_verdict len row w)))
 
@@ -269,13 +269,13 @@ module _ (office len : ℕ) (k : Kept) (f : Filing) (o : IsOffice office) (same 
 
   gives_filing : (r : FiledRow) → r ≡ file_row len k.row f → GivesFiling r
   gives_filing r is =
-      ⊎_elim (λ e. subst (λ (x : FiledRow). GivesFiling x) (sym (is ∙ not-filed-so len k.row f e)) (gives_refused e))
+      ⊎_elim (λ e. subst (λ (x : FiledRow). GivesFiling x) (sym (is ∙ not_filed_so len k.row f e)) (gives_refused e))
       (λ e. subst (λ (x : FiledRow). GivesFiling x) (sym (is ∙ filed_so_lem len k.row f e)) (gives_accepted e))
       (true_or_false (refuses (file_verdict len k.row f)))
 
 withdrawn_lasts : (len : ℕ) (row : List Ticket) (w : Withdrawal) → (withdraw_row len row w).withdrawn.lasts ≡ w.lasts
 withdrawn_lasts len row w =
-    ⊎_elim (λ e. ap (λ (x : WithdrawnRow). x.withdrawn.lasts) (not-withdrawn-so len row w e)) (λ e. ap (λ (x : WithdrawnRow). x.withdrawn.lasts) (withdrawn_so_lem len row w e))
+    ⊎_elim (λ e. ap (λ (x : WithdrawnRow). x.withdrawn.lasts) (not_withdrawn_so len row w e)) (λ e. ap (λ (x : WithdrawnRow). x.withdrawn.lasts) (withdrawn_so_lem len row w e))
     (true_or_false (refuses (withdraw_verdict len row w)))
 
 pub gives : (office : ℕ) {k next : Kept} {c : Call} → IsOffice office → Fits k c next → Gives office k next c
@@ -298,11 +298,11 @@ without_place m (t ∷ ts) j l e = by_case (eqb t.number m) refl j l e (without_
         → ((i : ℕ) → i < length ts → eqb (get_or ts i no_ticket).number m ≡ false → Place i ts (without_number m ts))
         → Place j (t ∷ ts) (without_number m (t ∷ ts))
     by_case true h zero l e rest = absurd (true≢false (sym h ∙ e))
-    by_case true h (suc i) l e rest = rw (without-here m t ts h) record { ahead = i; fewer = omega arith; there = omega arith; same = refl }
-    by_case false h zero l e rest = rw (without-later m t ts h) record { ahead = 0; fewer = omega arith; there = omega arith; same = refl }
+    by_case true h (suc i) l e rest = rw (without_here m t ts h) record { ahead = i; fewer = omega arith; there = omega arith; same = refl }
+    by_case false h zero l e rest = rw (without_later m t ts h) record { ahead = 0; fewer = omega arith; there = omega arith; same = refl }
     by_case false h (suc i) l e rest =
         let p = rest i (omega arith) e in
-        rw (without-later m t ts h) record { ahead = suc p.ahead; fewer = omega (arith, p.fewer); there = omega (arith, p.there); same = p.same }
+        rw (without_later m t ts h) record { ahead = suc p.ahead; fewer = omega (arith, p.fewer); there = omega (arith, p.there); same = p.same }
 
 module _ (office j : ℕ) (ts next : List Ticket) (l : j < length ts) where
   behind_filed : (joins : List Ticket) → next ≡ ts ++ joins → Place j ts next

@@ -18,7 +18,7 @@ use Rattle.desk_tickets.specs.WaitingTable.{offices, most_count, no_ticket, up_t
 use Rattle.desk_tickets.specs.Filings.{in_range, ticket_of, file_row}
 use Rattle.desk_tickets.specs.Withdrawals.{without_number}
 use Rattle.desk_tickets.proofs.Sound.{and_true_both}
-use Rattle.desk_tickets.proofs.Placed.{waiting-one, waiting-two}
+use Rattle.desk_tickets.proofs.Placed.{waiting_one, waiting_two}
 use Rattle.desk_tickets.proofs.Storing.{file_accepted}
 use Rattle.desk_tickets.proofs.Kept.{Stands}
 use Rattle.desk_boardings.specs.Boardings.{Tape}
@@ -89,8 +89,8 @@ named_on tape office ts (then {c = c} (boards l fits) day) h e =
     (each_drop (Named (length tape.starts)) (leaving office c) (ts ++ []) (each_append (Named (length tape.starts)) ts [] e tt))
 
 none_waits : (office : ℕ) → IsOffice office → waiting office at_first.row ≡ []
-none_waits office (inl e) = rw e (waiting-one at_first.lasts [] [] at_first.row empty_sound)
-none_waits office (inr e) = rw e (waiting-two at_first.lasts [] [] at_first.row empty_sound)
+none_waits office (inl e) = rw e (waiting_one at_first.lasts [] [] at_first.row empty_sound)
+none_waits office (inr e) = rw e (waiting_two at_first.lasts [] [] at_first.row empty_sound)
 
 pub refused_for_the_run_from_empty : RefusedForTheRunFromEmpty
 unfolding Named Each

@@ -23,7 +23,7 @@ use Rattle.desk_tickets.specs.declared.Filing.{Filing}
 use Rattle.desk_tickets.specs.declared.FiledRow.{FiledRow}
 use Rattle.desk_tickets.specs.WaitingTable.{no_ticket, last_of}
 use Rattle.desk_tickets.specs.Filings.{file_verdict, number_for, lasts_with, file_row}
-use Rattle.desk_tickets.proofs.Kept.{filed_so_lem, not-filed-so}
+use Rattle.desk_tickets.proofs.Kept.{filed_so_lem, not_filed_so}
 use Rattle.desk_boardings.specs.declared.BoardedRow.{BoardedRow}
 use Rattle.desk_boardings.specs.Boarders.{boarders}
 use Rattle.desk_boardings.specs.Boardings.{Tape, board_run, Boards}
@@ -58,7 +58,7 @@ module _ (day : desk.Day) (o : Outcome) (room out : List ℕ) (r : Answered) (ro
   bytes_are : r.bytes ≡ length o.text
   bytes_are = ap (λ (x : Answered). x.bytes) told_so.2.says
 
-  text_is : take r.bytes out' ≡ o.text
+  text_is_here : take r.bytes out' ≡ o.text
   text_is_here =
       ap (λ (n : ℕ). take n out') bytes_are
       ∙ ap (λ (row : List ℕ). take (length o.text) row) told_so.2.handed
@@ -90,7 +90,7 @@ filed_number : (len : ℕ) (row : List Ticket) (f : Filing) → is_refusal (file
 filed_number len row f passes =
     ⊎_elim
     (λ (t : refuses (file_verdict len row f) ≡ true).
-    absurd (true≢false (sym t ∙ ap (λ (x : FiledRow). is_refusal x.filed.verdict.refusal) (sym (not-filed-so len row f t)) ∙ passes)))
+    absurd (true≢false (sym t ∙ ap (λ (x : FiledRow). is_refusal x.filed.verdict.refusal) (sym (not_filed_so len row f t)) ∙ passes)))
     (λ (p : refuses (file_verdict len row f) ≡ false).
     let is = filed_so_lem len row f p in
     (ap (λ (x : FiledRow). x.filed.number) is, ap (λ (x : FiledRow). last_of f.office x.filed.lasts) is ∙ last_given f.office (number_for f) f.lasts))

@@ -29,7 +29,7 @@ use Rattle.desk_boardings.specs.Boarders.{Want, want_of, add_want, with_wants, w
 use Rattle.desk_boardings.specs.Boardings.{board_run}
 use Rattle.desk_boardings.proofs.Adding.{by_order, add_longer, add_total}
 use Rattle.desk_boardings.proofs.Who.{share_within, shares_fit}
-use Rattle.demands.proofs.Judged.{table-judged}
+use Rattle.demands.proofs.Judged.{table_judged}
 use Rattle.promises.specs.Desk.{IsTable}
 use Rattle.promises.specs.DeskWants.{asked, WantsAdded, WantsInOrder, no_wants_on, OnlyTheRun, nothing, turn_price, head_place, short_row, short_room, RefusedForTheRun}
 
@@ -267,5 +267,5 @@ refused_for_the_run len tape row b before after r table tape-ok names fits =
   where
     kind : OnlyTheRun (plan_verdict (board_run tape row b) before).refusal
     kind =
-        plan_kind (board_run tape row b) before (none_refuses (table_checks tape.starts tape.lengths tape.aggregates) (table-judged (no_wants_on tape) tape-ok.rows tape-ok.files))
+        plan_kind (board_run tape row b) before (none_refuses (table_checks tape.starts tape.lengths tape.aggregates) (table_judged (no_wants_on tape) tape-ok.rows tape-ok.files))
         (boarded_wants_pass (length tape.starts) b.lasts row table (λ i l. names 1 i (inl refl) l) (λ i l. names 2 i (inr refl) l))

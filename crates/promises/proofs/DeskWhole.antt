@@ -12,17 +12,17 @@ use borrow.Author.Tests.{le-ltb}
 use Rattle.refusals.specs.declared.Refusal.{Refusal}
 use Rattle.refusals.specs.Refusals.{is_refusal, accepted}
 use Rattle.refusals.proofs.Verdicts.{refuses}
-use Rattle.runs.proofs.Search.{true_or_false, first-zero, first_all}
+use Rattle.runs.proofs.Search.{true_or_false, first_zero, first_all}
 use Rattle.desk_tickets.specs.declared.Ticket.{Ticket}
 use Rattle.desk_tickets.specs.declared.Lasts.{Lasts}
 use Rattle.desk_tickets.specs.declared.Withdrawal.{Withdrawal}
 use Rattle.desk_tickets.specs.WaitingTable.{all_places, no_ticket, is_empty_place, tickets_in, bad_record, waiting, records_verdict}
 use Rattle.desk_tickets.specs.Filings.{file_row, ticket_of}
 use Rattle.desk_tickets.specs.Withdrawals.{is_waiting, withdraw_verdict, withdraw_row}
-use Rattle.desk_tickets.proofs.Halves.{tickets_none, tickets_one, tickets_end, tickets_at, tickets_fit, places_from, places-long, place-in-row}
+use Rattle.desk_tickets.proofs.Halves.{tickets_none, tickets_one, tickets_end, tickets_at, tickets_fit, places_from, places_long, place_in_row}
 use Rattle.desk_tickets.proofs.Kept.{Stands}
 use Rattle.desk_tickets.proofs.Placed.{none_bad}
-use Rattle.desk_tickets.proofs.Sound.{row-sound}
+use Rattle.desk_tickets.proofs.Sound.{row_sound}
 use Rattle.desk_rows.specs.Desk.{table_in, with_table, boarded_row}
 use Rattle.promises.specs.Desk.{Kept, Call, Fits, Day, answered}
 use Rattle.promises.specs.DeskRefusals.{RecordIsBad, IsWaiting}
@@ -30,7 +30,7 @@ use Rattle.promises.specs.DeskRows.{LentFits, kept_in}
 use Rattle.promises.specs.DeskWhole.{LeavesFromItsFiling, WithdrawalServes, TableHasNoBadRecord, RefusedLeavesTheRow, WaitAt, WaitAtTheirPlaces}
 use Rattle.promises.proofs.DeskSteps.{not_accepted}
 use Rattle.promises.proofs.Desk.{table_from_empty, table_stays, accepted_filing, filed_behind, leaves_in_time, refused_changes}
-use Rattle.promises.proofs.DeskRefusals.{tells_empty, tells_bad, tells-waiting, withdrawn-verdict}
+use Rattle.promises.proofs.DeskRefusals.{tells_empty, tells_bad, tells_waiting, withdrawn_verdict}
 
 -- A ticket that was filed stands last, behind as many as waited.
 pub leaves_from_its_filing : LeavesFromItsFiling
@@ -56,14 +56,14 @@ withdrawal_passes len row w table long waits = rw (none_bad w.lasts (waiting 1 r
 pub withdrawal_serves : WithdrawalServes
 withdrawal_serves k cs len w day same long waits =
     let table : Stands w.lasts k.row = subst (λ (x : Lasts). Stands x k.row) (sym same) (table_from_empty k cs day) in
-    let tells = tells-waiting len k.row w in
+    let tells = tells_waiting len k.row w in
     let is : is_waiting w.office w.number k.row ≡ true = ⊎_elim (λ e. e) (λ e. absurd (tells.when_false e waits)) (true_or_false (is_waiting w.office w.number k.row)) in
-    ap (λ v. v.refusal) (withdrawn-verdict len k.row w ∙ withdrawal_passes len k.row w table long is)
+    ap (λ v. v.refusal) (withdrawn_verdict len k.row w ∙ withdrawal_passes len k.row w table long is)
 
 pub table_has_no_bad_record : TableHasNoBadRecord
 table_has_no_bad_record l row long = (
-  λ table i below bad. true≢false (sym (found i bad) ∙ first-zero (bad_record l row) 32 (none_bad l (waiting 1 row) (waiting 2 row) row table) i below),
-  λ none. row-sound l row long (first_all (bad_record l row) 32 (λ i below. fair i (none i below))),
+  λ table i below bad. true≢false (sym (found i bad) ∙ first_zero (bad_record l row) 32 (none_bad l (waiting 1 row) (waiting 2 row) row table) i below),
+  λ none. row_sound l row long (first_all (bad_record l row) 32 (λ i below. fair i (none i below))),
 )
   where
     found : (i : ℕ) → RecordIsBad l row i → bad_record l row i ≡ true
@@ -124,7 +124,7 @@ module _ (first : ℕ) (row : List Ticket) (in_row : first ≤ 16) (all : length
   there = places_from first row
 
   fits_half : length (tickets_in there) ≤ 16
-  fits_half = omega (arith, tickets_fit there, places-long first row in_row all)
+  fits_half = omega (arith, tickets_fit there, places_long first row in_row all)
 
   wait_at : WaitAt first row (tickets_in there)
   wait_at =
@@ -132,13 +132,13 @@ module _ (first : ℕ) (row : List Ticket) (in_row : first ≤ 16) (all : length
         few = fits_half;
         each = λ i l.
             let t = tickets_at there i l in
-            let p = place-in-row first row in_row all i (omega (arith, l, fits_half)) in
+            let p = place_in_row first row in_row all i (omega (arith, l, fits_half)) in
             (t.0 ∙ p, (tells_empty (get_or row (first + i) no_ticket)).when_false (ap is_empty_place (sym p) ∙ t.1));
         end = ⊎_elim
-            (λ (same : length (tickets_in there) ≡ length there). inl (same ∙ places-long first row in_row all))
+            (λ (same : length (tickets_in there) ≡ length there). inl (same ∙ places_long first row in_row all))
             (λ (e : is_empty_place (get_or there (length (tickets_in there)) no_ticket) ≡ true).
             elim (dec_lt (length (tickets_in there)) 16) [
-              | yes l ↦ inr ((tells_empty (get_or row (first + length (tickets_in there)) no_ticket)).when_true (ap is_empty_place (sym (place-in-row first row in_row all (length (tickets_in there)) l)) ∙ e))
+              | yes l ↦ inr ((tells_empty (get_or row (first + length (tickets_in there)) no_ticket)).when_true (ap is_empty_place (sym (place_in_row first row in_row all (length (tickets_in there)) l)) ∙ e))
               | no l ↦ inl (omega (arith, fits_half, l))
             ])
             (ends_so there);

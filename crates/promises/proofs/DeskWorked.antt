@@ -45,13 +45,13 @@ answered_so d e m n p q = rw (p, q)
 
 told_here : (day : desk.Day) (o : Outcome) (room out : List ℕ) (next : desk.Day) (room' text : List ℕ) → o.verdict.refusal ≡ Accepted → next ≡ o.next → room' ≡ o.left → text ≡ o.text → length text ≤ 2677 → 2677 ≤ length out
     → AnswersEvent day o room out (record { day = next; verdict = accepted; bytes = length text }) room' (text ++ drop (length text) out)
-told_here day o room out next room' text served day-is left_is text_is few takes =
+told_here day o room out next room' text served day_is left_is text_is few takes =
     let size = ap length text_is in
     record {
       refused = λ y. absurd (true≢false (sym y ∙ ap is_refusal served));
       most = λ _. omega (arith, few, size);
       short = λ _ l. absurd (omega (arith, l, few, takes, size));
-      told = λ _ _. record { says = answered_so next o.next (length text) (length o.text) day-is size; left = left_is; handed = ap (λ (t : List ℕ). t ++ drop (length t) out) text_is };
+      told = λ _ _. record { says = answered_so next o.next (length text) (length o.text) day_is size; left = left_is; handed = ap (λ (t : List ℕ). t ++ drop (length t) out) text_is };
     }
 
 -- A line that holds an event.

@@ -10,11 +10,11 @@ use Rattle.refusals.specs.Refusals.{is_refusal, accepted, first_of}
 use Rattle.refusals.proofs.Verdicts.{refuses, all_accept, accepts_at}
 use Rattle.sheet_reader.specs.Sheet.{says_sweep}
 use Rattle.sheet_reader.specs.Reading.{sheet_verdict, rule_verdict}
-use Rattle.sheet_reader.proofs.Good.{accepted-sheet}
+use Rattle.sheet_reader.proofs.Good.{accepted_sheet}
 use Rattle.demands.specs.RefusalTable.{SomeApplies}
-use Rattle.demands.proofs.Checks.{refused-iff}
+use Rattle.demands.proofs.Checks.{refused_iff}
 use Rattle.promises.specs.TwoTexts.{EarlyApplies, early_order, AcceptedIsRead}
-use Rattle.promises.proofs.TwoTexts.{early-finds}
+use Rattle.promises.proofs.TwoTexts.{early_finds}
 
 module _ (sheet : List ℕ) where
   abbrev early : Verdict
@@ -24,17 +24,17 @@ module _ (sheet : List ℕ) where
   pub none_early : sheet_verdict sheet ≡ accepted → rule_verdict sheet ≡ accepted → SomeApplies (EarlyApplies sheet) early_order → ⊥
   none_early read rule some =
       let passes : early.refusal ≡ Accepted = rw (read, rule) in
-      (refused-iff (EarlyApplies sheet) (early-finds sheet) (refl, (refl, (refl, tt)))).1 some passes
+      (refused_iff (EarlyApplies sheet) (early_finds sheet) (refl, (refl, (refl, tt)))).1 some passes
 
   early_passes : (SomeApplies (EarlyApplies sheet) early_order → ⊥) → refuses early ≡ false
   early_passes none = go (refuses early) refl
     where
       go : (b : Bool) → refuses early ≡ b → refuses early ≡ false
-      go true e = absurd (none ((refused-iff (EarlyApplies sheet) (early-finds sheet) (refl, (refl, (refl, tt)))).0 (λ k. true≢false (sym e ∙ ap is_refusal k))))
+      go true e = absurd (none ((refused_iff (EarlyApplies sheet) (early_finds sheet) (refl, (refl, (refl, tt)))).0 (λ k. true≢false (sym e ∙ ap is_refusal k))))
       go false e = e
 
   pub early_read : (SomeApplies (EarlyApplies sheet) early_order → ⊥) → sheet_verdict sheet ≡ accepted
-  early_read none = accepted-sheet sheet (all_accept (sheet_verdict sheet ∷ rule_verdict sheet ∷ []) (early_passes none)).0
+  early_read none = accepted_sheet sheet (all_accept (sheet_verdict sheet ∷ rule_verdict sheet ∷ []) (early_passes none)).0
 
   pub early_least : (SomeApplies (EarlyApplies sheet) early_order → ⊥) → says_sweep sheet ≡ false
   unfolding rule_verdict

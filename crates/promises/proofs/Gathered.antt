@@ -1,7 +1,7 @@
 -- The files that remain of want lines: ascending, each with reads, and gathered again the same.
 use Prim.Native.Nat.{ℕ, zero, suc, ◌+◌, ◌≤◌, ◌<◌}
 use mathlib.Core.Path.{◌≡◌, refl, ap, sym, ◌∙◌}
-use mathlib.Core.Bool.{Bool, true, false, true≢false, not, cond, ◌||◌, or_true, or_false}
+use mathlib.Core.Bool.{Bool, true, false, true≢false, not, cond, ◌||◌, or-true, or-false}
 use mathlib.Core.List.{List, [], ◌∷◌, ◌++◌}
 use native.Mathlib.Omega.{arith}
 use native.Mathlib.Decide.{dec_lt}
@@ -10,7 +10,7 @@ use lib.Seq.{take-suc, take-length, ext_get_or}
 use lib.Dec.{eqb, ltb}
 use borrow.Author.Tests.{eq-eqb, ne_eqb, eqb-true, eqb-false, lt-ltb, le-ltb, ltb-true, ltb-false, not-true, not-false}
 use Rattle.runs.specs.Lists.{any_below}
-use Rattle.runs.proofs.Search.{any_here, any-zero, or_false_both}
+use Rattle.runs.proofs.Search.{any_here, any_zero, or_false_both}
 use Rattle.answer_mend.specs.declared.wants.Fate.TheVariants.{Stays}
 use Rattle.answer_mend.specs.Wants.{sum_below, lower_file, higher_file, enter, entered, remaining, reads_in_all, asked_of, reads_of_want, reads_each, same_above, higher_above, fate_of}
 use Rattle.answer_mend.proofs.Texts.{each_long, each_at}
@@ -104,15 +104,15 @@ in_remaining files counts x (suc n) = go (in_remaining files counts x n) (eqb (g
 
     go : is_in x (remaining files counts n) ≡ any_below (asks files counts x) n → (z : Bool) → eqb (get_or counts n 0) 0 ≡ z → (s : Bool) → eqb (get_or files n 0) x ≡ s
         → is_in x (cond z (remaining files counts n) (enter (get_or files n 0) (remaining files counts n))) ≡ (any_below (asks files counts x) n || not (eqb (cond s (get_or counts n 0) 0) 0))
-    go p true z true s = rw (z, or_false, p)
-    go p true z false s = rw (or_false, p)
-    go p false z true s = rw (in_enter x (get_or files n 0) (remaining files counts n), z, or_true, eq-eqb x (get_or files n 0) (sym (eqb-true (get_or files n 0) x s)))
-    go p false z false s = rw (in_enter x (get_or files n 0) (remaining files counts n), or_false, ne_eqb x (get_or files n 0) (λ e. eqb-false (get_or files n 0) x s (sym e)), p)
+    go p true z true s = rw (z, or-false, p)
+    go p true z false s = rw (or-false, p)
+    go p false z true s = rw (in_enter x (get_or files n 0) (remaining files counts n), z, or-true, eq-eqb x (get_or files n 0) (sym (eqb-true (get_or files n 0) x s)))
+    go p false z false s = rw (in_enter x (get_or files n 0) (remaining files counts n), or-false, ne_eqb x (get_or files n 0) (λ e. eqb-false (get_or files n 0) x s (sym e)), p)
 
 pub in_at : (files : List ℕ) (i : ℕ) → i < length files → is_in (get_or files i 0) files ≡ true
 in_at [] i l = absurd (omega arith)
 in_at (g ∷ files) zero l = rw (eq-eqb g g refl)
-in_at (g ∷ files) (suc i) l = rw (in_at files i (omega arith), or_true)
+in_at (g ∷ files) (suc i) l = rw (in_at files i (omega arith), or-true)
 
 not_in : (x : ℕ) (files : List ℕ) → is_in x files ≡ false → (i : ℕ) → i < length files → get_or files i 0 ≡ x → ⊥
 not_in x files e i l same = true≢false (sym (in_at files i l) ∙ rw same e)
@@ -167,7 +167,7 @@ module _ (files counts : List ℕ) where
   pub gone_unasked : (x : ℕ) → is_in x rest ≡ false → reads_of_want files counts x ≡ 0
   unfolding reads_of_want
   gone_unasked x e =
-      let none = any-zero (asks files counts x) (length files) (sym (in_remaining files counts x (length files)) ∙ e) in
+      let none = any_zero (asks files counts x) (length files) (sym (in_remaining files counts x (length files)) ∙ e) in
       sum_nothing (λ i. asked_of x (get_or files i 0) (get_or counts i 0)) (length files) (λ i l. eqb-true (asked_of x (get_or files i 0) (get_or counts i 0)) 0 (not-false (eqb (asked_of x (get_or files i 0) (get_or counts i 0)) 0) (none i l)))
 
 -- Rows that ascend, with counts that are not 0.

@@ -35,8 +35,8 @@ use Rattle.sheet_writer.proofs.Reread.{after_front}
 use Rattle.sheet_lists.specs.Form.{most_detours, lines_up_to, first_bad_to_end, detours_told, detour_text, time_text, first_failing, plan_bad_top, plan_bad_below, plan_bad_line, is_plan, list_bad_line, plan_froms, plan_tos, list_detours, list_text, list_froms, list_tos}
 use Rattle.sheet_lists.specs.Reading.{form_checks, plan_form, list_form}
 use Rattle.sheet_lists.proofs.Counting.{up_to_few}
-use Rattle.sheet_lists.proofs.AnyTrip.{any_small, any-short}
-use Rattle.sheet_reader.proofs.Good.{good-name}
+use Rattle.sheet_lists.proofs.AnyTrip.{any_small, any_short}
+use Rattle.sheet_reader.proofs.Good.{good_name}
 use Rattle.sheet_reader.proofs.Rows.{length_each}
 use Rattle.answer_plan.specs.Recall.{verdict_by}
 use Rattle.answer_check.specs.RunRules.{head_anywhere}
@@ -48,7 +48,7 @@ use Rattle.answer_check.proofs.Determined.{one_least, answer_once}
 use Rattle.promises.specs.Lengths.{price_row, check_row, PriceIsWhole, CheckIsWhole}
 use Rattle.promises.specs.Checks.{FormedFor}
 use Rattle.promises.proofs.Checks.{even_plan, any_rows_formed}
-use Rattle.promises.proofs.Lengths.{some_begun, Held, takes_all, first_few, unless_few, shifted_few, bad_few, count_few, at_near, verdict-near, line_length, number_length, refusal_short, refusal_begins}
+use Rattle.promises.proofs.Lengths.{some_begun, Held, takes_all, first_few, unless_few, shifted_few, bad_few, count_few, at_near, verdict_near, line_length, number_length, refusal_short, refusal_begins}
 use Rattle.promises.proofs.AnyLengths.{any_begins}
 
 -- The first of some lines that fails its test.
@@ -159,7 +159,7 @@ check_checks_near words plan run = (form_near (plan_bad_line plan) plan (plan_li
 -- The texts that hold a refusal.
 refused_held : (sheet : List ℕ) (checks : Run → List Verdict) → AllNear (checks (sheet_run sheet)) → (text : List ℕ) → text ≡ refusal_text (verdict_by checks sheet) → (length text ≤ 38) × (0 < length text)
 refused_held sheet checks near text is =
-    let small = refusal_short (verdict_by checks sheet) (omega (arith, verdict-near sheet checks near)) in
+    let small = refusal_short (verdict_by checks sheet) (omega (arith, verdict_near sheet checks near)) in
     (omega (arith, ap length is, small), some_begun text 113 (ap (λ t. get_or t 0 0) is ∙ refusal_begins (verdict_by checks sheet)))
 
 pub price_held : (sheet list : List ℕ) → (length (price_text head_anywhere (pricing_verdict head_anywhere sheet list) (sheet_name sheet) (sheet_run sheet) list) ≤ price_row) × (0 < length (price_text head_anywhere (pricing_verdict head_anywhere sheet list) (sheet_name sheet) (sheet_run sheet) list))
@@ -174,7 +174,7 @@ price_held sheet list = go (refuses (pricing_verdict head_anywhere sheet list)) 
     go false e =
         let is : text ≡ plan_any_text (sheet_name sheet) (sheet_run sheet) (list_froms list) (list_tos list) = rw e in
         let all = all_accept (sheet_verdict sheet ∷ rule_verdict sheet ∷ price_checks head_anywhere list (sheet_run sheet)) e in
-        let small = any-short (sheet_run sheet) (list_froms list) (list_tos list) all.1.1.1.0 all.1.1.1.1.0 (sheet_name sheet) (good-name sheet all.0) in
+        let small = any_short (sheet_run sheet) (list_froms list) (list_tos list) all.1.1.1.0 all.1.1.1.1.0 (sheet_name sheet) (good_name sheet all.0) in
         (omega (arith, ap length is, small), some_begun text 115 (ap (λ t. get_or t 0 0) is ∙ any_begins (sheet_name sheet) (sheet_run sheet) (list_froms list) (list_tos list)))
 
 bad_held : (length (refusal_text bad_input) ≤ 38) × (0 < length (refusal_text bad_input))
@@ -297,7 +297,7 @@ module _ (name : List ℕ) (named : is_name name ≡ true) (run : Run) (passes :
         walk_few plan expected long,
         least_few run froms tos list (any_small run froms tos passes listed).sum,
         difference_few plan expected,
-        any-short run froms tos passes listed name named,
+        any_short run froms tos passes listed name named,
       )
 
   pub check_held : (length text ≤ check_row) × (0 < length text)
@@ -310,7 +310,7 @@ module _ (name : List ℕ) (named : is_name name ≡ true) (run : Run) (passes :
 
 pub check_passes : (words : ℕ) (sheet plan : List ℕ) → refuses (verdict_on words sheet plan) ≡ false → (is_name (sheet_name sheet) ≡ true) × (refuses (judge_any_of (sheet_run sheet)) ≡ false)
 unfolding verdict_by
-check_passes words sheet plan e = let all = all_accept (sheet_verdict sheet ∷ rule_verdict sheet ∷ check_checks head_anywhere words plan (sheet_run sheet)) e in (good-name sheet all.0, all.1.1.1.0)
+check_passes words sheet plan e = let all = all_accept (sheet_verdict sheet ∷ rule_verdict sheet ∷ check_checks head_anywhere words plan (sheet_run sheet)) e in (good_name sheet all.0, all.1.1.1.0)
 
 pub check_fits : (words : ℕ) (sheet plan text : List ℕ) → AnswersCheck head_anywhere (verdict_on words sheet plan) (sheet_name sheet) (sheet_run sheet) plan (plan_froms plan) (plan_tos plan) text → (length text ≤ check_row) × (0 < length text)
 unfolding verdict_by

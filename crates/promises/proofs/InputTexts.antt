@@ -21,7 +21,7 @@ use Rattle.text_bytes.proofs.Split.{has_here, before_here, behind_here, split_at
 use Rattle.text_lines.specs.Lines.{line_of}
 use Rattle.text_inputs.specs.declared.Framed.{Framed}
 use Rattle.text_inputs.specs.Inputs.{framed, framed_behind, part_in}
-use Rattle.text_inputs.proofs.Parts.{part_there, whole-sheet, cut-sheet, no-sheet}
+use Rattle.text_inputs.proofs.Parts.{part_there, whole_sheet, cut_sheet, no_sheet}
 use Rattle.text_pages.proofs.Pages.{decimal_short}
 use Rattle.sheet_reader.specs.Sheet.{longest_sheet, sheet_run, sheet_name}
 use Rattle.sheet_reader.specs.Reading.{sheet_verdict}
@@ -61,14 +61,14 @@ module _ (input : List ℕ) (count : ℕ) (rest : List ℕ) (c : Counts input co
   front_and_rest : input ≡ (decimal count ++ (line_feed ∷ [])) ++ rest
   front_and_rest = c.is ∙ sym (append_assoc (decimal count) (line_feed ∷ []) rest)
 
-  behind_front : drop from input ≡ rest
-  behind_front = ap (drop from) front_and_rest ∙ drop_at (decimal count ++ (line_feed ∷ [])) rest from (length-append (decimal count) (line_feed ∷ []))
+  behind_front_here : drop from input ≡ rest
+  behind_front_here = ap (drop from) front_and_rest ∙ drop_at (decimal count ++ (line_feed ∷ [])) rest from (length-append (decimal count) (line_feed ∷ []))
 
   -- The bytes behind its first line, all of them.
   all_behind : part_in input from (from + length rest) ≡ rest
   all_behind =
       let many : from + length rest - from ≡ length rest = omega arith in
-      sym (part_there input from (from + length rest) (omega arith) (omega (arith, in_all))) ∙ ap (λ k. take k (drop from input)) many ∙ ap (take (length rest)) behind_front ∙ take_all (length rest) rest (omega arith)
+      sym (part_there input from (from + length rest) (omega arith) (omega (arith, in_all))) ∙ ap (λ k. take k (drop from input)) many ∙ ap (take (length rest)) behind_front_here ∙ take_all (length rest) rest (omega arith)
 
 -- An input that is put together from two texts.
 module _ (input sheet text : List ℕ) (c : Counts input (length sheet) (sheet ++ text)) where
@@ -81,12 +81,12 @@ module _ (input sheet text : List ℕ) (c : Counts input (length sheet) (sheet +
   whole : length input ≡ end + length text
   whole = in_all input (length sheet) (sheet ++ text) c ∙ omega (arith, length-append sheet text)
 
-  sheet_part : part_in input start end ≡ sheet
-  sheet_part =
+  sheet_part_here : part_in input start end ≡ sheet
+  sheet_part_here =
       let many : end - start ≡ length sheet = omega arith in
       sym (part_there input start end (omega arith) (omega (arith, whole)))
       ∙ ap (λ k. take k (drop start input)) many
-      ∙ ap (take (length sheet)) (behind_front input (length sheet) (sheet ++ text) c)
+      ∙ ap (take (length sheet)) (behind_front_here input (length sheet) (sheet ++ text) c)
       ∙ take_at sheet text (length sheet) refl
 
   abbrev front : List ℕ
@@ -106,20 +106,20 @@ module _ (input sheet text : List ℕ) (c : Counts input (length sheet) (sheet +
   framed_so : framed_input input ≡ Framed.Sheet start end
   framed_so =
       let cut = leb most_input (length input) in
-      framed_there input (length sheet) (sheet ++ text) c cut ∙ sym (whole-sheet start (length sheet) (length (sheet ++ text)) cut (omega (arith, length-append sheet text)))
+      framed_there input (length sheet) (sheet ++ text) c cut ∙ sym (whole_sheet start (length sheet) (length (sheet ++ text)) cut (omega (arith, length-append sheet text)))
 
   answered : (Answers : List ℕ → List ℕ → List ℕ → ℕ → List ℕ → Type 0) (row : List ℕ) (n : ℕ) (row' : List ℕ) → AnsweredIn Answers input (framed_input input) row n row' ↔ Answers sheet text row n row'
   answered Answers row n row' = (
-    λ h. subst (λ x. Answers x text row n row') sheet_part
+    λ h. subst (λ x. Answers x text row n row') sheet_part_here
         (subst (λ x. Answers (part_in input start end) x row n row') text_part (subst (λ f. AnsweredIn Answers input f row n row') framed_so h)),
     λ h. subst (λ f. AnsweredIn Answers input f row n row') (sym framed_so)
-        (subst (λ x. Answers (part_in input start end) x row n row') (sym text_part) (subst (λ x. Answers x text row n row') (sym sheet_part) h)),
+        (subst (λ x. Answers (part_in input start end) x row n row') (sym text_part) (subst (λ x. Answers x text row n row') (sym sheet_part_here) h)),
   )
 
   -- The room that is left by the one is left by the other.
   room_there : (room : List ℕ) → room_in input (framed_input input) room ≡ room_checked sheet text room
   room_there room =
-      ap (λ f. room_in input f room) framed_so ∙ ap (λ x. room_checked x (part_in input end (length input)) room) sheet_part ∙ ap (λ x. room_checked sheet x room) text_part
+      ap (λ f. room_in input f room) framed_so ∙ ap (λ x. room_checked x (part_in input end (length input)) room) sheet_part_here ∙ ap (λ x. room_checked sheet x room) text_part
 
   checked : (row room : List ℕ) (n : ℕ) (row' room' : List ℕ) → InputChecked input row room n row' room' ↔ SheetChecked sheet text row room n row' room'
   checked row room n row' room' = (
@@ -150,7 +150,7 @@ unfolding framed
 framed_bad input (NoTwoTexts.no_count none) =
     ⊎_elim (λ (e : is_number (line_of input) ≡ true). absurd (none (value_of (line_of input)) (behind line_feed input) (begins_counted input e))) (λ (e : is_number (line_of input) ≡ false). rw e) (true_or_false (is_number (line_of input)))
 framed_bad input (NoTwoTexts.too_few {count} {rest} c few all) =
-    framed_there input count rest c (leb most_input (length input)) ∙ sym (no-sheet (length (decimal count) + 1) count (length rest) (leb most_input (length input)) few (lt-leb most_input (length input) all))
+    framed_there input count rest c (leb most_input (length input)) ∙ sym (no_sheet (length (decimal count) + 1) count (length rest) (leb most_input (length input)) few (lt-leb most_input (length input) all))
 
 -- A row that holds a text prints it.
 held_printed : (text said row : List ℕ) (n : ℕ) (row' : List ℕ) → RowHolds text row n row' → text ≡ said → length said ≤ length row → take n row' ≡ said
@@ -198,7 +198,7 @@ checked_long words sheet plan l row n row' h wide =
 
 module _ (input : List ℕ) (count : ℕ) (rest : List ℕ) (c : Counts input count rest) (few : length rest < count) (all : 32791 ≤ length input) where
   cut_so : framed_input input ≡ Framed.Sheet (length (decimal count) + 1) (length (decimal count) + 1 + length rest)
-  cut_so = framed_there input count rest c (leb most_input (length input)) ∙ sym (cut-sheet (length (decimal count) + 1) count (length rest) (leb most_input (length input)) few (le-leb most_input (length input) all))
+  cut_so = framed_there input count rest c (leb most_input (length input)) ∙ sym (cut_sheet (length (decimal count) + 1) count (length rest) (leb most_input (length input)) few (le-leb most_input (length input) all))
 
   long : 16384 < length rest
   long = omega (arith, all, in_all input count rest c, decimal_short count c.small)

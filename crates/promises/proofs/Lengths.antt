@@ -41,13 +41,13 @@ use Rattle.text_pages.proofs.Pages.{decimal_digits, decimal_short}
 use Rattle.sheet_reader.specs.Lines.{tape_key, head_key, files_key, file_key, wants_key, want_key, is_tape_line, is_count_line, is_turn_line, is_rule_line}
 use Rattle.sheet_reader.specs.Sheet.{longest_sheet, most_sheet_files, says_sweep, sheet_files, file_text, wants_text, sheet_wants, want_text, end_text, unless, shifted, first_some, first_bad_top, first_bad_below, first_bad_line, sheet_run, sheet_name}
 use Rattle.sheet_reader.specs.Reading.{sheet_verdict, rule_verdict}
-use Rattle.sheet_reader.proofs.Good.{good-name}
+use Rattle.sheet_reader.proofs.Good.{good_name}
 use Rattle.sheet_writer.specs.RefusalLines.{refused_key, place_key, refusal_text}
 use Rattle.sheet_writer.specs.PlanSheet.{sum_key, detours_key, plan_top, plan_lines, plan_text}
 use Rattle.sheet_writer.proofs.Sheets.{name_length}
 use Rattle.sheet_figures.specs.FigureSheet.{buys_key, signed, figure_line, figure_lines, figure_page, figure_text}
 use Rattle.sheet_writer.proofs.RoundTrip.{SmallRow}
-use Rattle.sheet_lists.proofs.RoundTrip.{PlanSmall, plan-small, plan_short}
+use Rattle.sheet_lists.proofs.RoundTrip.{PlanSmall, plan_small, plan_short}
 use Rattle.answer_plan.specs.Recall.{run_checks, room_words, verdict_by, recall_verdict, AnswersRun, SheetRecalledBy, bytes_put, row_put}
 use Rattle.answer_plan.proofs.Determined.{answer_once}
 use Rattle.answer_field.specs.Field.{field_checks}
@@ -301,7 +301,7 @@ module _ (checks : Run → List Verdict) (judges : (run : Run) → refuses (firs
   sheet_passes e =
       let all = all_accept (sheet_verdict sheet ∷ rule_verdict sheet ∷ checks (sheet_run sheet)) e in
       let left = rw (first_passes (rule_verdict sheet) (checks (sheet_run sheet)) all.1.0) at (rw (first_passes (sheet_verdict sheet) (rule_verdict sheet ∷ checks (sheet_run sheet)) all.0) at e) in
-      (good-name sheet all.0, judges (sheet_run sheet) left)
+      (good_name sheet all.0, judges (sheet_run sheet) left)
 
   pub plan_held : (text : List ℕ) → AnswersRun (verdict_by checks sheet) (sheet_name sheet) (sheet_run sheet) text → (length text ≤ plan_row) × (0 < length text)
   plan_held text a = go (refuses (verdict_by checks sheet)) refl
@@ -393,15 +393,15 @@ less_fits a b l m z is =
 
 module _ (r : Run) (froms tos : List ℕ) (p : Priceable r froms tos) where
   small : PlanSmall (total r.counts) (priced_answer r (list_of froms tos)) froms tos r.numbers (priced_times r (list_of froms tos)) (priced_legs r (list_of froms tos))
-  small = plan-small r froms tos p.run p.list
+  small = plan_small r froms tos p.run p.list
 
   figure_fits : (i : ℕ) → i < length froms → SFits w64 (figure_of r (list_of froms tos) i)
   figure_fits i l =
       less_fits (priced_answer r (without i (list_of froms tos))).sum (priced_answer r (list_of froms tos)).sum (sum_without_small r froms tos p i l) (sum_small r froms tos p) _
       (figure_is r (list_of froms tos) i _ _ refl refl)
 
-  figures_fit : (i : ℕ) → i < length (figures_of r (list_of froms tos)) → SFits w64 (get_or (figures_of r (list_of froms tos)) i (pos 0))
-  figures_fit i l =
+  figures_fit_here : (i : ℕ) → i < length (figures_of r (list_of froms tos)) → SFits w64 (get_or (figures_of r (list_of froms tos)) i (pos 0))
+  figures_fit_here i l =
       let many = figures_length r (list_of froms tos) (length (list_of froms tos)) 0 in
       let size = length_list froms tos small.even in
       subst (SFits w64) (figure_at r (list_of froms tos) i (omega (arith, many))) (figure_fits i (omega (arith, many, size)))
@@ -410,7 +410,7 @@ module _ (r : Run) (froms tos : List ℕ) (p : Priceable r froms tos) where
   unfolding figure_text
   figures_short name named =
       page_short name named (priced_answer r (list_of froms tos)) small.sum (omega (arith, small.detours, small.few)) froms tos (omega (arith, small.few)) small.froms small.tos
-      (figures_of r (list_of froms tos)) figures_fit
+      (figures_of r (list_of froms tos)) figures_fit_here
 
 pub figures_begin : (name : List ℕ) (run : Run) (froms tos : List ℕ) → get_or (figure_text name run froms tos) 0 0 ≡ 116
 unfolding figure_text figure_page

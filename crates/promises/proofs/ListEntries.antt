@@ -10,7 +10,7 @@ use borrow.Author.Tests.{not-false}
 use Rattle.refusals.specs.declared.Refusal.TheVariants.{BadLine}
 use Rattle.refusals.specs.Refusals.{first_of}
 use Rattle.refusals.proofs.Verdicts.{refuses, all_accept, accepts_at}
-use Rattle.runs.proofs.Search.{true_or_false, first-zero}
+use Rattle.runs.proofs.Search.{true_or_false, first_zero}
 use Rattle.text_bytes.specs.Text.{line_feed, comma, has, behind, is_empty, value_of, decimal}
 use Rattle.text_lines.specs.Lines.{line_of, after_lines, line_after, number_behind, first_in, second_in, is_pair_line, first_bad_of}
 use Rattle.text_lines.proofs.Filling.{length_each}
@@ -20,14 +20,14 @@ use Rattle.sheet_writer.proofs.Reread.{key_value}
 use Rattle.sheet_lists.specs.Form.{most_detours, lines_up_to, first_bad_to_end, detours_told, detour_text, plan_bad_line, is_plan, list_bad_line, list_detours, list_text, starts_on, ends_on, plan_froms, plan_tos, list_froms, list_tos}
 use Rattle.sheet_lists.specs.Reading.{form_checks, plan_form, list_form}
 use Rattle.demands.specs.Lines.{Stands, Number, UpTo, Pair}
-use Rattle.demands.proofs.Lines.{tells-count, tells-pair-line, tells-end, number_flat, line_read}
+use Rattle.demands.proofs.Lines.{tells_count, tells_pair_line, tells_end, number_flat, line_read}
 use Rattle.demands.proofs.FirstLine.{after_both}
-use Rattle.demands.proofs.SheetLines.{value_read, pair-says, each_value, stands_there}
+use Rattle.demands.proofs.SheetLines.{value_read, pair_says, each_value, stands_there}
 use Rattle.promises.specs.ListLines.{PlanLineIsBad, DetoursAreTold}
 use Rattle.promises.specs.ListEntries.{EntriesOn, OnPlanSheet, OnBareList, PlanHoldsItsLines, ListHoldsItsLines}
 use Rattle.demands.proofs.Canonical.{number_text}
 use Rattle.promises.proofs.Lengths.{first_none, unless_none}
-use Rattle.promises.proofs.ListLines.{plan-search, plan-is, is-plan}
+use Rattle.promises.proofs.ListLines.{plan_search, plan_is, is_plan_lem}
 
 -- So many such lines behind others.
 entries_on : (text : List ℕ) (first count : ℕ) → ((i : ℕ) → i < count → Stands detour_key Pair text (first + i)) → EntriesOn text first (starts_on count (after_lines first text)) (ends_on count (after_lines first text))
@@ -46,7 +46,7 @@ entries_on text first count stand =
           ap (λ t. second_in detour_key (line_of t)) (sym there) ∙ sym (each_value end count i h) in
           subst (λ b. Stands detour_key (λ value. value ≡ decimal (get_or (starts_on count (after_lines first text)) i 0) ++ (comma ∷ decimal b)) text (first + i)) to
           (subst (λ a. Stands detour_key (λ value. value ≡ decimal a ++ (comma ∷ decimal (second_in detour_key (line_after (first + i) text)))) text (first + i)) from
-          (pair-says detour_key refl text (first + i) (stand i h)));
+          (pair_says detour_key refl text (first + i) (stand i h)));
     }
 
 -- The number of detours, of any plan sheet that says one.
@@ -59,15 +59,15 @@ no_bad bad text e = accepts_at bad BadLine refl (all_accept (form_checks bad tex
 
 module _ (plan : List ℕ) (none : plan_bad_line plan ≡ 0) where
   clean : (i : ℕ) → PlanLineIsBad plan i → ⊥
-  clean = (plan-search plan).none none
+  clean = (plan_search plan).none none
 
   detour_stands : (i : ℕ) → i < detours_told plan → Stands detour_key Pair plan (6 + i)
   unfolding has
-  detour_stands i l = stands_there (tells-pair-line plan (6 + i) detour_key (omega arith) refl) (λ n. clean (6 + i) (PlanLineIsBad.detour (omega arith) (omega arith) n))
+  detour_stands i l = stands_there (tells_pair_line plan (6 + i) detour_key (omega arith) refl) (λ n. clean (6 + i) (PlanLineIsBad.detour (omega arith) (omega arith) n))
 
   count_stands : Stands detours_key (UpTo 63) plan 5
   unfolding has
-  count_stands = stands_there (tells-count plan 5 detours_key (omega arith) refl most_detours) (λ n. clean 5 (PlanLineIsBad.detours refl n))
+  count_stands = stands_there (tells_count plan 5 detours_key (omega arith) refl most_detours) (λ n. clean 5 (PlanLineIsBad.detours refl n))
 
   count_text : count_stands.value ≡ decimal (length (plan_froms plan))
   unfolding detours_told plan_froms has
@@ -101,22 +101,22 @@ module _ (list : List ℕ) (none : first_bad_to_end (is_pair_line detour_key) mo
   line_stands : (i : ℕ) → i < many → Stands detour_key Pair list i
   unfolding first_bad_of has
   line_stands i l =
-      (tells-pair-line list i detour_key (omega arith) refl).when_true
-      (not-false (is_pair_line detour_key (line_after i list)) (first-zero (λ k. not (is_pair_line detour_key (line_after k list))) many parts.0 i l))
+      (tells_pair_line list i detour_key (omega arith) refl).when_true
+      (not-false (is_pair_line detour_key (line_after i list)) (first_zero (λ k. not (is_pair_line detour_key (line_after k list))) many parts.0 i l))
 
   on_bare_list : OnBareList list (starts_on many list) (ends_on many list)
   unfolding after_lines
   on_bare_list =
       record {
         entries = entries_on list 0 many (λ i l. subst (Stands detour_key Pair list) (omega arith) (line_stands i l));
-        end = subst (λ k. after_lines k list ≡ []) (sym (length_each (λ k. first_in detour_key (line_after k list)) many)) ((tells-end list many).when_true parts.1);
+        end = subst (λ k. after_lines k list ≡ []) (sym (length_each (λ k. first_in detour_key (line_after k list)) many)) ((tells_end list many).when_true parts.1);
       }
 
 pub list_holds_its_lines : ListHoldsItsLines
 unfolding list_form list_bad_line list_froms list_tos list_detours list_text plan_froms plan_tos
 list_holds_its_lines list e =
     let none = no_bad (list_bad_line list) list e in (
-      λ p. let is = plan-is list p in rw is (on_plan_sheet list (rw is at none)),
-      λ n. let is : is_plan list ≡ false = ⊎_elim (λ (t : is_plan list ≡ true). absurd (n (is-plan list t))) (λ (f : is_plan list ≡ false). f) (true_or_false (is_plan list)) in
+      λ p. let is = plan_is list p in rw is (on_plan_sheet list (rw is at none)),
+      λ n. let is : is_plan list ≡ false = ⊎_elim (λ (t : is_plan list ≡ true). absurd (n (is_plan_lem list t))) (λ (f : is_plan list ≡ false). f) (true_or_false (is_plan list)) in
           rw is (on_bare_list list (rw is at none)),
     )

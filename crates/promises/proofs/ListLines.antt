@@ -12,7 +12,7 @@ use borrow.Author.Tests.{not-true, not-false, ltb-true, ltb-false}
 use Rattle.refusals.specs.declared.Refusal.{Refusal}
 use Rattle.refusals.specs.declared.Refusal.TheVariants.{BadLine, LongSheet}
 use Rattle.refusals.specs.Refusals.{refuse_at, first_of, first_where}
-use Rattle.runs.proofs.Search.{true_or_false, first-zero, or_false_both}
+use Rattle.runs.proofs.Search.{true_or_false, first_zero, or_false_both}
 use Rattle.text_bytes.specs.Text.{line_feed, is_empty, has, behind, starts_with}
 use Rattle.text_bytes.proofs.Split.{key_split}
 use Rattle.text_lines.specs.Lines.{line_of, after_lines, line_after, is_number_line, is_pair_line, is_triple_line, first_bad_of}
@@ -25,8 +25,8 @@ use Rattle.sheet_lists.specs.Reading.{form_checks, plan_form, list_form}
 use Rattle.demands.specs.RefusalTable.{FirstBad}
 use Rattle.demands.specs.Lines.{Stands, Name, Number, UpTo, Pair, Triple}
 use Rattle.demands.proofs.Tests.{Tells, tells_below}
-use Rattle.demands.proofs.Checks.{Decides, refused, passed, found_at, decides_if, decides_reworded, Finds, finds-none, finds-first}
-use Rattle.demands.proofs.Lines.{tells-tape, tells-number, tells-count, tells-pair-line, tells-triple-line, tells-end}
+use Rattle.demands.proofs.Checks.{Decides, refused, passed, found_at, decides_if, decides_reworded, Finds, finds_none, finds_first}
+use Rattle.demands.proofs.Lines.{tells_tape, tells_number, tells_count, tells_pair_line, tells_triple_line, tells_end}
 use Rattle.demands.proofs.FirstLine.{Search, joined, ended, one_line, after_both}
 use Rattle.promises.specs.ListLines.{PlanLineIsBad, ListLineIsBad, IsPlanSheet, PlanFormApplies, ListFormApplies, form_order, PlanFormByTheTable, ListFormByTheTable}
 
@@ -115,7 +115,7 @@ module _ (text : List ℕ) (Good : ℕ → Type 0) (test : List ℕ → Bool) (t
   clean : (lo n : ℕ) → first_where (off lo) n ≡ 0 → (i : ℕ) → lo ≤ i → i < lo + n → Good i
   clean lo n e i l h =
       let same : lo + (i - lo) ≡ i = omega arith in
-      let good = not-false (test (line_after (i - lo) (after_lines lo text))) (first-zero (off lo) n e (i - lo) (omega arith)) in
+      let good = not-false (test (line_after (i - lo) (after_lines lo text))) (first_zero (off lo) n e (i - lo) (omega arith)) in
       (tells i).when_true (ap (λ k. test (line_after k text)) (sym same) ∙ sym (at_line lo (i - lo)) ∙ good)
 
   among : (lo count : ℕ) → Search (Among lo count) (shifted lo (first_bad_of test count (after_lines lo text))) lo (lo + count)
@@ -165,8 +165,8 @@ module _ (text : List ℕ) (Good : ℕ → Type 0) (test : List ℕ → Bool) (t
         (λ (e : test (line_after (lo + L) text) ≡ false). (tells (lo + L)).when_false e g)
         (true_or_false (test (line_after (lo + L) text)))
 
-    none_past : L < most → (i : ℕ) → lo + L < i → after_lines i text ≡ []
-    none_past l i h = there i (omega arith) ∙ none_later (i - lo) rest (omega (arith, (up_to most rest).2 l))
+    none_past_here : L < most → (i : ℕ) → lo + L < i → after_lines i text ≡ []
+    none_past_here l i h = there i (omega arith) ∙ none_later (i - lo) rest (omega (arith, (up_to most rest).2 l))
 
     on : (i : ℕ) → Parts i → ToEnd lo most i
     on i =
@@ -182,8 +182,8 @@ module _ (text : List ℕ) (Good : ℕ → Type 0) (test : List ℕ → Bool) (t
     back i =
         ⊎_elim
         (λ h. by_cases (dec_lt i (lo + L)) (λ l. inl (h.0, l, h.3))
-        (λ n. inr (inl (by_cases (dec_lt (lo + L) i) (λ l. absurd (h.2 (none_past (omega (arith, h.1)) i l))) (λ m. omega arith), h.2))))
-        (λ h. by_cases (dec_lt L most) (λ l. absurd (h.1 (none_past l i (omega (arith, h.0))))) (λ n. inr (inl (omega (arith, h.0, (up_to most rest).0), h.1))))
+        (λ n. inr (inl (by_cases (dec_lt (lo + L) i) (λ l. absurd (h.2 (none_past_here (omega (arith, h.1)) i l))) (λ m. omega arith), h.2))))
+        (λ h. by_cases (dec_lt L most) (λ l. absurd (h.1 (none_past_here l i (omega (arith, h.0))))) (λ n. inr (inl (omega (arith, h.0, (up_to most rest).0), h.1))))
 
     one_row : (a : ℕ) (c : Bool) → shifted lo (first_some (a ∷ unless c (L + 1) ∷ [])) ≡ first_some (shifted lo a ∷ unless c (lo + L + 1) ∷ [])
     one_row zero true = refl
@@ -199,7 +199,7 @@ module _ (text : List ℕ) (Good : ℕ → Type 0) (test : List ℕ → Bool) (t
     to_end =
         let done = is_empty (after_lines L rest) in
         let one : Search (λ j. (j ≡ lo + L) × (after_lines j text ≡ [] → ⊥)) (unless done (lo + L + 1)) (lo + L) (suc (lo + L)) =
-        one_line (λ j. after_lines j text ≡ []) done (lo + L) (lo + L + 1) (omega arith) (rw (after_both L lo (lo + L) text refl) (tells-end text (lo + L))) in
+        one_line (λ j. after_lines j text ≡ []) done (lo + L) (lo + L + 1) (omega arith) (rw (after_both L lo (lo + L) text refl) (tells_end text (lo + L))) in
         rw (one_row (first_bad_of test L rest) done)
         (reworded on back (omega (arith, (up_to most rest).0))
         (joined (shifted lo (first_bad_of test L rest)) (unless done (lo + L + 1) ∷ []) (omega arith) (omega arith) (omega arith) (among lo L)
@@ -245,26 +245,26 @@ module _ (plan : List ℕ) where
       let detours = is_count_line detours_key most_detours (line_after 5 plan) in
       rw (failing_row plan 0 (is_tape_line ∷ is_number_line sum_key ∷ is_number_line reads_key ∷ is_number_line finish_key ∷ is_number_line end_key ∷ is_count_line detours_key most_detours ∷ []))
       (joined (unless tape 1) (unless sum 2 ∷ unless reads 3 ∷ unless finish 4 ∷ unless end 5 ∷ unless detours 6 ∷ []) (omega arith) (omega arith) (omega arith)
-      (one_line (Stands tape_key Name plan) tape 0 1 refl (tells-tape plan 0))
+      (one_line (Stands tape_key Name plan) tape 0 1 refl (tells_tape plan 0))
       (joined (unless sum 2) (unless reads 3 ∷ unless finish 4 ∷ unless end 5 ∷ unless detours 6 ∷ []) (omega arith) (omega arith) (omega arith)
-      (one_line (Stands sum_key Number plan) sum 1 2 refl (tells-number plan 1 sum_key (omega arith) refl))
+      (one_line (Stands sum_key Number plan) sum 1 2 refl (tells_number plan 1 sum_key (omega arith) refl))
       (joined (unless reads 3) (unless finish 4 ∷ unless end 5 ∷ unless detours 6 ∷ []) (omega arith) (omega arith) (omega arith)
-      (one_line (Stands reads_key Number plan) reads 2 3 refl (tells-number plan 2 reads_key (omega arith) refl))
+      (one_line (Stands reads_key Number plan) reads 2 3 refl (tells_number plan 2 reads_key (omega arith) refl))
       (joined (unless finish 4) (unless end 5 ∷ unless detours 6 ∷ []) (omega arith) (omega arith) (omega arith)
-      (one_line (Stands finish_key Number plan) finish 3 4 refl (tells-number plan 3 finish_key (omega arith) refl))
+      (one_line (Stands finish_key Number plan) finish 3 4 refl (tells_number plan 3 finish_key (omega arith) refl))
       (joined (unless end 5) (unless detours 6 ∷ []) (omega arith) (omega arith) (omega arith)
-      (one_line (Stands end_key Number plan) end 4 5 refl (tells-number plan 4 end_key (omega arith) refl))
+      (one_line (Stands end_key Number plan) end 4 5 refl (tells_number plan 4 end_key (omega arith) refl))
       (joined (unless detours 6) [] (omega arith) (omega arith) (omega arith)
-      (one_line (Stands detours_key (UpTo 63) plan) detours 5 6 refl (tells-count plan 5 detours_key (omega arith) refl most_detours))
+      (one_line (Stands detours_key (UpTo 63) plan) detours 5 6 refl (tells_count plan 5 detours_key (omega arith) refl most_detours))
       (ended 6)))))))
 
   tells_detour : (i : ℕ) → Tells (is_pair_line detour_key (line_after i plan)) (Stands detour_key Pair plan i)
   unfolding has
-  tells_detour i = tells-pair-line plan i detour_key (omega arith) refl
+  tells_detour i = tells_pair_line plan i detour_key (omega arith) refl
 
   tells_time : (i : ℕ) → Tells (is_triple_line time_key (line_after i plan)) (Stands time_key Triple plan i)
   unfolding has
-  tells_time i = tells-triple-line plan i time_key (omega arith) refl
+  tells_time i = tells_triple_line plan i time_key (omega arith) refl
 
   no_detour : is_pair_line detour_key [] ≡ false
   unfolding is_pair_line starts_with
@@ -345,8 +345,8 @@ module _ (list : List ℕ) where
 form_finds : (applies : Refusal → ℕ → Type 0) (bad : ℕ) (text : List ℕ) → ((p : ℕ) → (p ≡ 0) × (16384 < length text) → applies LongSheet p) → ((p : ℕ) → applies LongSheet p → (p ≡ 0) × (16384 < length text))
     → Decides BadLine (applies BadLine) (refuse_at bad BadLine) → Finds applies form_order (first_of (form_checks bad text))
 form_finds applies bad text there back line =
-    finds-first applies (refuse_at bad BadLine ∷ []) refl (decides_reworded there back (decides_if _ LongSheet (tells_below longest_sheet (length text))))
-    (λ a. finds-first applies [] refl line (λ b. finds-none applies))
+    finds_first applies (refuse_at bad BadLine ∷ []) refl (decides_reworded there back (decides_if _ LongSheet (tells_below longest_sheet (length text))))
+    (λ a. finds_first applies [] refl line (λ b. finds_none applies))
 
 plan_long_back : (plan : List ℕ) (p : ℕ) → PlanFormApplies plan LongSheet p → (p ≡ 0) × (16384 < length plan)
 plan_long_back plan p (PlanFormApplies.too_long h) = (refl, h)
@@ -361,9 +361,9 @@ plan_form_by_the_table plan =
     (decides_reworded (λ p. PlanFormApplies.bad_line) (plan_line_back plan) (finds_it (plan_search plan)))
 
 module _ (list : List ℕ) where
-  pub is_plan_here : is_plan list ≡ true → IsPlanSheet list
+  pub is_plan_lem : is_plan list ≡ true → IsPlanSheet list
   unfolding is_plan
-  is_plan_here e = (drop (length tape_key) list, key_split tape_key list e)
+  is_plan_lem e = (drop (length tape_key) list, key_split tape_key list e)
 
   pub plan_is : IsPlanSheet list → is_plan list ≡ true
   unfolding is_plan
@@ -374,7 +374,7 @@ module _ (list : List ℕ) where
 
   of_plan : is_plan list ≡ true → (p : ℕ) → ListFormApplies list BadLine p → FirstBad (PlanLineIsBad list) p p
   of_plan e p (ListFormApplies.plan_line q h) = h
-  of_plan e p (ListFormApplies.detour_line n h) = absurd (n (is_plan_here e))
+  of_plan e p (ListFormApplies.detour_line n h) = absurd (n (is_plan_lem e))
 
   of_lines : is_plan list ≡ false → (p : ℕ) → ListFormApplies list BadLine p → FirstBad (ListLineIsBad list) p p
   of_lines e p (ListFormApplies.plan_line q h) = absurd (true≢false (sym (plan_is q) ∙ e))
@@ -384,7 +384,7 @@ module _ (list : List ℕ) where
   unfolding list_bad_line
   list_line =
       ⊎_elim
-      (λ (e : is_plan list ≡ true). rw e (decides_reworded (λ p. ListFormApplies.plan_line (is_plan_here e)) (of_plan e) (finds_it (plan_search list))))
+      (λ (e : is_plan list ≡ true). rw e (decides_reworded (λ p. ListFormApplies.plan_line (is_plan_lem e)) (of_plan e) (finds_it (plan_search list))))
       (λ (e : is_plan list ≡ false). rw e (decides_reworded (λ p. ListFormApplies.detour_line (λ q. true≢false (sym (plan_is q) ∙ e))) (of_lines e) (finds_it (bare_search list))))
       (true_or_false (is_plan list))
 

@@ -14,7 +14,7 @@ use Rattle.walk.specs.AnyHead.{priced_any_answer}
 use Rattle.figures.specs.Figures.{figure_of, figures_of}
 use Rattle.figures.specs.AnyHead.{figure_any_of, figures_any_of}
 use Rattle.figures.specs.Private.{PriceableAny}
-use Rattle.figures.proofs.AnyHead.{list-any-accepted}
+use Rattle.figures.proofs.AnyHead.{list_any_accepted}
 use Rattle.text_pages.specs.Printing.{number_line, pair_lines}
 use Rattle.sheet_reader.specs.Lines.{file_key, wants_key, want_key}
 use Rattle.sheet_writer.specs.Writing.{top_text, sheet_text}
@@ -24,15 +24,15 @@ use Rattle.sheet_figures.specs.FigureSheet.{figure_lines, figure_page, figure_te
 use Rattle.sheet_figures.specs.AnyHead.{figure_any_text}
 use Rattle.demands.proofs.Formed.{formed_by_the_rules}
 use Rattle.demands.proofs.Buys.{bought_at}
-use Rattle.demands.proofs.AnyJudged.{nothing-judged-any}
+use Rattle.demands.proofs.AnyJudged.{nothing_judged_any}
 use Rattle.demands.proofs.AnyHead.{legs_are_one}
 use Rattle.demands.proofs.AnySums.{formed_any_means}
-use Rattle.demands.proofs.AnyBuys.{bought-any}
+use Rattle.demands.proofs.AnyBuys.{bought_any}
 use Rattle.promises.specs.Texts.{triples_on}
 use Rattle.promises.specs.PlanLines.{walk_sheet}
 use Rattle.promises.specs.ListSheets.{RunSheetLines, PlanSheetLines, PlanAnySheetLines, FigureSheetLines, FigureAnySheetLines}
 use Rattle.promises.proofs.Checks.{starts_of, ends_of}
-use Rattle.promises.proofs.PlanLines.{pairs_on_lem, triples_on_lem, plan-text-is, any-text-is}
+use Rattle.promises.proofs.PlanLines.{pairs_on_lem, triples_on_lem, plan_text_is, any_text_is}
 use Rattle.promises.proofs.BuysLines.{figures_said}
 
 -- A text of two rows is that of the halves of their list.
@@ -49,12 +49,12 @@ run_sheet_lines name r =
     ∙ ap (λ t. top ++ triples_on file_key r.starts r.lengths r.aggregates ++ wants ++ t) (pairs_on_lem want_key r.numbers r.counts)
 
 pub plan_sheet_lines : PlanSheetLines
-plan_sheet_lines name r froms tos even = by_halves (plan_text name r) froms tos even ∙ plan-text-is name r (list_of froms tos)
+plan_sheet_lines name r froms tos even = by_halves (plan_text name r) froms tos even ∙ plan_text_is name r (list_of froms tos)
 
 pub plan_any_sheet_lines : PlanAnySheetLines
 plan_any_sheet_lines name r froms tos legs nothing even formed made =
     let list = list_of froms tos in
-    by_halves (plan_any_text name r) froms tos even ∙ any-text-is name r list ∙ ap (walk_sheet name r list) (sym (legs_are_one r nothing list formed legs made))
+    by_halves (plan_any_text name r) froms tos even ∙ any_text_is name r list ∙ ap (walk_sheet name r list) (sym (legs_are_one r nothing list formed legs made))
 
 pub figure_sheet_lines : FigureSheetLines
 unfolding figure_text figure_page priced_answer
@@ -70,11 +70,11 @@ pub figure_any_sheet_lines : FigureAnySheetLines
 unfolding figure_any_text figure_page priced_any_answer
 figure_any_sheet_lines name r froms tos legs nothing even formed made =
     let list = list_of froms tos in
-    let priceable : PriceableAny r froms tos = record { run = nothing-judged-any r nothing; list = list-any-accepted r.head (stops_of r) froms tos even ((formed_any_means r nothing list).1 formed) } in
+    let priceable : PriceableAny r froms tos = record { run = nothing_judged_any r nothing; list = list_any_accepted r.head (stops_of r) froms tos even ((formed_any_means r nothing list).1 formed) } in
     let text = figure_page name (priced_any_answer r list) in
     record {
       figures = figure_lines (map (λ d. d.from) list) (map (λ d. d.to) list) (figures_any_of r list);
-      each = figures_said _ (figure_any_of r list) (length list) (λ i l. bought-any r froms tos priceable i (omega (arith, l, length_list froms tos even))) list 0 (omega arith);
+      each = figures_said _ (figure_any_of r list) (length list) (λ i l. bought_any r froms tos priceable i (omega (arith, l, length_list froms tos even))) list 0 (omega arith);
       whole = by_halves (λ f t. text f t (figures_any_of r list)) froms tos even
           ∙ ap
           (λ (gs : List Leg). figure_page name (record { refusal = (priced_any_answer r list).refusal; place = 0; sum = sum_of r.turn (head_at r.head) gs (stops_of r); finish = 0; end = 0; detours = length list })

@@ -25,14 +25,14 @@ use Rattle.answer_mend.specs.Wants.{reads_in_all}
 use Rattle.answer_mend.specs.Mending.{sheet_remaining, mended_text, changes_text, texts_verdicts, mend_verdict, SheetMended}
 use Rattle.demands.specs.RefusalTable.{FirstBad, FirstThatApplies, here, later, SomeApplies}
 use Rattle.demands.proofs.Tests.{tells_below, tells_either}
-use Rattle.demands.proofs.Checks.{decides_if, decides_reworded, Finds, finds-none, finds-first, first_of_joined, refused-iff}
+use Rattle.demands.proofs.Checks.{decides_if, decides_reworded, Finds, finds_none, finds_first, first_of_joined, refused_iff}
 use Rattle.promises.specs.ListLines.{form_order}
 use Rattle.promises.specs.Mender.{FileLine, NotMended, WantsRemain, CountsFrom, SheetApplies, long_sheet, bad_line, many_wants, many_reads, sheet_order, TextsApply, long_text, short_row, texts_order, MenderRefuses, TopStands, OneFileTooMany, OldPartsAreRead, LongTextIsMended}
 use Rattle.promises.proofs.DeskSteps.{not_accepted}
-use Rattle.promises.proofs.MenderLines.{decides-line}
+use Rattle.promises.proofs.MenderLines.{decides_line}
 use Rattle.promises.proofs.Mends.{Facts, same_reads, in_order}
 use Rattle.promises.proofs.MenderKept.{left_alone}
-use Rattle.promises.proofs.MenderWants.{tells-remain, tells_reads, parts_are_read}
+use Rattle.promises.proofs.MenderWants.{tells_remain, tells_reads, parts_are_read}
 
 -- The sheet's refusals.
 module _ (sheet : List ℕ) where
@@ -45,8 +45,8 @@ module _ (sheet : List ℕ) where
   line_back : (p : ℕ) → SheetApplies sheet BadLine p → FirstBad (NotMended sheet) p p
   line_back p (bad_line f) = f
 
-  wants_there : (p : ℕ) → (p ≡ 0) × WantsRemain sheet → SheetApplies sheet WantRows p
-  wants_there p h = rw h.0 (many_wants h.1)
+  wants_there_here : (p : ℕ) → (p ≡ 0) × WantsRemain sheet → SheetApplies sheet WantRows p
+  wants_there_here p h = rw h.0 (many_wants h.1)
 
   wants_back : (p : ℕ) → SheetApplies sheet WantRows p → (p ≡ 0) × WantsRemain sheet
   wants_back p (many_wants w) = (refl, w)
@@ -71,24 +71,24 @@ module _ (sheet : List ℕ) where
 
   pub sheet_finds : Finds (SheetApplies sheet) sheet_order (first_of (long ∷ line ∷ wants ∷ reads ∷ []))
   sheet_finds =
-      finds-first (SheetApplies sheet) (line ∷ wants ∷ reads ∷ []) refl (decides_reworded long_there long_back (decides_if (ltb longest_sheet (length sheet)) LongSheet (tells_below longest_sheet (length sheet))))
-      (λ a. finds-first (SheetApplies sheet) (wants ∷ reads ∷ []) refl
-      (decides_reworded (λ p h. bad_line h) line_back (decides-line sheet (ltb-false longest_sheet (length sheet) (accepts_if (ltb longest_sheet (length sheet)) LongSheet refl a))))
-      (λ b. finds-first (SheetApplies sheet) (reads ∷ []) refl (decides_reworded wants_there wants_back (decides_if (ltb most_wants (length (sheet_remaining sheet))) WantRows (tells-remain sheet (described b))))
-      (λ c. finds-first (SheetApplies sheet) [] refl (decides_reworded reads_there reads_back (decides_if (ltb most_reads (reads_in_all (wanted_counts sheet))) TooManyReads (tells_reads sheet (described b))))
-      (λ d. finds-none (SheetApplies sheet)))))
+      finds_first (SheetApplies sheet) (line ∷ wants ∷ reads ∷ []) refl (decides_reworded long_there long_back (decides_if (ltb longest_sheet (length sheet)) LongSheet (tells_below longest_sheet (length sheet))))
+      (λ a. finds_first (SheetApplies sheet) (wants ∷ reads ∷ []) refl
+      (decides_reworded (λ p h. bad_line h) line_back (decides_line sheet (ltb-false longest_sheet (length sheet) (accepts_if (ltb longest_sheet (length sheet)) LongSheet refl a))))
+      (λ b. finds_first (SheetApplies sheet) (reads ∷ []) refl (decides_reworded wants_there_here wants_back (decides_if (ltb most_wants (length (sheet_remaining sheet))) WantRows (tells_remain sheet (described b))))
+      (λ c. finds_first (SheetApplies sheet) [] refl (decides_reworded reads_there reads_back (decides_if (ltb most_reads (reads_in_all (wanted_counts sheet))) TooManyReads (tells_reads sheet (described b))))
+      (λ d. finds_none (SheetApplies sheet)))))
     where
       described : refuses line ≡ false → first_bad_loose sheet ≡ 0
       described b = accepts_at (first_bad_loose sheet) BadLine refl b
 
   -- 12 and 11 alone, as the reader of a loose sheet has them.
-  pub form_finds_here : Finds (SheetApplies sheet) form_order (loose_verdict sheet)
+  pub form_finds : Finds (SheetApplies sheet) form_order (loose_verdict sheet)
   unfolding loose_verdict
-  form_finds_here =
-      finds-first (SheetApplies sheet) (line ∷ []) refl (decides_reworded long_there long_back (decides_if (ltb longest_sheet (length sheet)) LongSheet (tells_below longest_sheet (length sheet))))
-      (λ a. finds-first (SheetApplies sheet) [] refl
-      (decides_reworded (λ p h. bad_line h) line_back (decides-line sheet (ltb-false longest_sheet (length sheet) (accepts_if (ltb longest_sheet (length sheet)) LongSheet refl a))))
-      (λ b. finds-none (SheetApplies sheet)))
+  form_finds =
+      finds_first (SheetApplies sheet) (line ∷ []) refl (decides_reworded long_there long_back (decides_if (ltb longest_sheet (length sheet)) LongSheet (tells_below longest_sheet (length sheet))))
+      (λ a. finds_first (SheetApplies sheet) [] refl
+      (decides_reworded (λ p h. bad_line h) line_back (decides_line sheet (ltb-false longest_sheet (length sheet) (accepts_if (ltb longest_sheet (length sheet)) LongSheet refl a))))
+      (λ b. finds_none (SheetApplies sheet)))
 
   pub not_eight : (k : Refusal) (p : ℕ) → SheetApplies sheet k p → number_of k ≡ 8 → ⊥
   not_eight k p (long_sheet l) e = omega arith
@@ -114,11 +114,11 @@ module _ (text changes out notes : List ℕ) where
   texts_find =
       let applies = TextsApply text changes out notes in
       let short = ltb (length out) (length text) || ltb (length notes) (length changes) in
-      finds-first applies (refuse_if short ShortRow ∷ []) refl (decides_reworded over_there over_back (decides_if (ltb longest_sheet (length text)) LongSheet (tells_below longest_sheet (length text))))
-      (λ a. finds-first applies [] refl
+      finds_first applies (refuse_if short ShortRow ∷ []) refl (decides_reworded over_there over_back (decides_if (ltb longest_sheet (length text)) LongSheet (tells_below longest_sheet (length text))))
+      (λ a. finds_first applies [] refl
       (decides_reworded row_there row_back
       (decides_if short ShortRow (tells_either (ltb (length out) (length text)) (ltb (length notes) (length changes)) (tells_below (length out) (length text)) (tells_below (length notes) (length changes)))))
-      (λ b. finds-none applies))
+      (λ b. finds_none applies))
 
 -- Two rows of checks, one behind the other, are one.
 pub rows_joined : (a b c d x : Verdict) → first_of (first_of (a ∷ b ∷ []) ∷ first_of (c ∷ d ∷ []) ∷ x ∷ []) ≡ first_of (first_of (a ∷ b ∷ c ∷ d ∷ []) ∷ x ∷ [])
@@ -176,7 +176,7 @@ pub mender_refuses : MenderRefuses
 mender_refuses sheet out notes r out' notes' h =
     let OfSheet = SheetApplies sheet in
     let OfTexts = TextsApply (mended_text sheet) (changes_text sheet) out notes in
-    let iff = refused-iff OfSheet (sheet_finds sheet) (refl, (refl, (refl, (refl, tt)))) in
+    let iff = refused_iff OfSheet (sheet_finds sheet) (refl, (refl, (refl, (refl, tt)))) in
     let texts = texts_find (mended_text sheet) (changes_text sheet) out notes in
     ⊎_elim
     (λ (e : refuses (ofSheet sheet out notes) ≡ true).
@@ -185,13 +185,13 @@ mender_refuses sheet out notes r out' notes' h =
     record {
       of_sheet = λ s. first;
       of_texts = λ n. absurd (n some);
-      iff = (λ n. inl some, λ s. (refused-iff OfSheet first (refl, (refl, (refl, (refl, tt))))).1 some);
+      iff = (λ n. inl some, λ s. (refused_iff OfSheet first (refl, (refl, (refl, (refl, tt))))).1 some);
       kept = kept_so_here sheet out notes r out' notes' h;
     })
     (λ (e : refuses (ofSheet sheet out notes) ≡ false).
     let none : SomeApplies OfSheet sheet_order → ⊥ = λ s. true≢false (sym (not_accepted (ofSheet sheet out notes).refusal (iff.1 s)) ∙ e) in
     let first = found sheet out notes r out' notes' h OfTexts texts_order (ofTexts sheet out notes) (by_texts sheet out notes e) texts in
-    let both = refused-iff OfTexts first (refl, (refl, tt)) in
+    let both = refused_iff OfTexts first (refl, (refl, tt)) in
     record {
       of_sheet = λ s. absurd (none s);
       of_texts = λ n. first;
@@ -233,7 +233,7 @@ one_file_too_many sheet out notes r out' notes' h short top all =
 pub nothing_applies : (sheet : List ℕ) → (SomeApplies (SheetApplies sheet) sheet_order → ⊥) → Facts sheet
 nothing_applies sheet none =
     let passes : refuses (first_of (long sheet ∷ line sheet ∷ wants sheet ∷ reads sheet ∷ [])) ≡ false =
-    ⊎_elim (λ t. absurd (none ((refused-iff (SheetApplies sheet) (sheet_finds sheet) (refl, (refl, (refl, (refl, tt))))).0 (λ a. true≢false (sym t ∙ ap is_refusal a))))) (λ f. f)
+    ⊎_elim (λ t. absurd (none ((refused_iff (SheetApplies sheet) (sheet_finds sheet) (refl, (refl, (refl, (refl, tt))))).0 (λ a. true≢false (sym t ∙ ap is_refusal a))))) (λ f. f)
     (true_or_false (refuses (first_of (long sheet ∷ line sheet ∷ wants sheet ∷ reads sheet ∷ [])))) in
     let all = all_accept (long sheet ∷ line sheet ∷ wants sheet ∷ reads sheet ∷ []) passes in
     record {

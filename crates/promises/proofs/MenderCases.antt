@@ -9,7 +9,7 @@ use borrow.Author.Tests.{not-false}
 use Rattle.refusals.specs.declared.Refusal.TheVariants.{Accepted}
 use Rattle.refusals.specs.Refusals.{accepted, is_refusal, first_where}
 use Rattle.runs.specs.Lists.{any_below}
-use Rattle.runs.proofs.Search.{first-zero}
+use Rattle.runs.proofs.Search.{first_zero}
 use Rattle.text_bytes.specs.Text.{bytes, has, before, behind, starts_with, all_of, value_from, is_number, is_name, decimal_in, decimal}
 use Rattle.text_lines.specs.Lines.{line_of, after_lines, line_after, is_number_line, is_pair, is_pair_line, is_triple, is_triple_line, first_bad_of, each_of, lines_before}
 use Rattle.sheet_reader.specs.Lines.{file_key, want_key, is_tape_line, is_turn_line, is_rule_line, turn_with, names_sweep}
@@ -31,7 +31,7 @@ use Rattle.promises.proofs.Mends.{mended_rows}
 come_computed : (test : List ℕ → Bool) (most n : ℕ) (text : List ℕ) → n ≤ most → first_bad_of test n text ≡ 0 → test (line_after n text) ≡ false → lines_before most (first_bad_of test most text) ≡ n
 unfolding first_bad_of
 come_computed test most n text few good bad =
-    come_so_many test most n text few (λ i l. not-false (test (line_after i text)) (first-zero (λ j. not (test (line_after j text))) n good i l)) (λ l. bad)
+    come_so_many test most n text few (λ i l. not-false (test (line_after i text)) (first_zero (λ j. not (test (line_after j text))) n good i l)) (λ l. bad)
 
 -- A sheet that is accepted, with rows as long as the two texts.
 was_mended : (sheet text changes : List ℕ) → mended_text sheet ≡ text → mend_verdict sheet text changes ≡ accepted → WasMended sheet text

@@ -27,15 +27,15 @@ use Rattle.answer_mend.specs.Wants.{fate_of}
 use Rattle.answer_mend.specs.Mending.{sheet_remaining, mended_text, change_if, changes_text, fate_line, fate_lines}
 use Rattle.promises.specs.Mends.{SameFile, HigherFile}
 use Rattle.promises.specs.Mender.{FileLine, LeftAlone, MenderLeavesAlone, UnlistedIsSame}
-use Rattle.promises.proofs.Gathered.{Clean, clean-remaining}
+use Rattle.promises.proofs.Gathered.{Clean, clean_remaining}
 use Rattle.promises.proofs.Copied.{copied_line}
-use Rattle.promises.proofs.Again.{lines-even, line₀, line₁, line₂, line₃, text₅, table-ended, files-again, good-again, remaining_once}
+use Rattle.promises.proofs.Again.{lines_even, line₀, line₁, line₂, line₃, text₅, table_ended, files_again, good_again, remaining_once}
 use Rattle.promises.proofs.Described.{described}
-use Rattle.promises.proofs.Same.{empty_is, floor, rising_steps, price_value, same-sheet}
+use Rattle.promises.proofs.Same.{empty_is, floor, rising_steps, price_value, same_sheet}
 use Rattle.promises.proofs.Taken.{empty_price_lem}
-use Rattle.promises.proofs.Strict.{strict, numbers-read, counts-read}
-use Rattle.promises.proofs.Mends.{Facts, known, text-mended, fates_by_conditions}
-use Rattle.promises.proofs.MenderLines.{file_at, file-among}
+use Rattle.promises.proofs.Strict.{strict, numbers_read, counts_read}
+use Rattle.promises.proofs.Mends.{Facts, known, text_mended, fates_by_conditions}
+use Rattle.promises.proofs.MenderLines.{file_at_lem, file_among}
 
 turn_line_lem : (text : List ℕ) → is_turn_line text ≡ true → (value_text turn_key text ≡ [] → ⊥) → text ≡ turn_key ++ decimal (turn_with empty_turn text)
 unfolding is_turn_line
@@ -49,23 +49,23 @@ module _ (sheet text : List ℕ) (k : Facts sheet) (mended : text ≡ mended_tex
   unfolding sheet_turn_with
   price_kept given = ap (line_after 2) mended ∙ line₂ sheet k.good k.few k.reads ∙ sym (turn_line_lem (line_after 2 sheet) (described sheet k.good).turn given)
 
-  file_kept : (i : ℕ) → i < loose_files sheet → line_after (5 + i) text ≡ line_after (5 + i) sheet
-  file_kept i l =
-      ap (line_after (5 + i)) mended ∙ sym (file_at (mended_text sheet) i) ∙ ap (line_after i) (text₅ sheet k.good k.few k.reads)
-      ∙ copied_line (loose_files sheet) (file_text sheet) _ (table-ended sheet k.good k.few k.reads) i l ∙ file_at sheet i
+  file_kept_here : (i : ℕ) → i < loose_files sheet → line_after (5 + i) text ≡ line_after (5 + i) sheet
+  file_kept_here i l =
+      ap (line_after (5 + i)) mended ∙ sym (file_at_lem (mended_text sheet) i) ∙ ap (line_after i) (text₅ sheet k.good k.few k.reads)
+      ∙ copied_line (loose_files sheet) (file_text sheet) _ (table_ended sheet k.good k.few k.reads) i l ∙ file_at_lem sheet i
 
   old_file : (i : ℕ) → FileLine sheet i → line_after i text ≡ line_after i sheet
-  old_file i s = let among = file-among sheet k.good i s in rw among.2 (file_kept among.0 among.1)
+  old_file i s = let among = file_among sheet k.good i s in rw among.2 (file_kept_here among.0 among.1)
 
   new_file : (i : ℕ) → FileLine text i → line_after i text ≡ line_after i sheet
   new_file i s =
-      let among = file-among (mended_text sheet) (good-again sheet k.good k.few k.reads) i (rw mended at s) in
-      rw among.2 (file_kept among.0 (omega (arith, among.1, files-again sheet k.good k.few k.reads)))
+      let among = file_among (mended_text sheet) (good_again sheet k.good k.few k.reads) i (rw mended at s) in
+      rw among.2 (file_kept_here among.0 (omega (arith, among.1, files_again sheet k.good k.few k.reads)))
 
   -- The price of an empty one.
-  price_written : value_text turn_key (line_after 2 sheet) ≡ [] → line_after 2 text ≡ bytes "turn=12000"
+  price_written_here : value_text turn_key (line_after 2 sheet) ≡ [] → line_after 2 text ≡ bytes "turn=12000"
   unfolding sheet_turn_with turn_with
-  price_written none =
+  price_written_here none =
       let price : decimal (sheet_turn sheet) ≡ bytes "12000" = rw none empty_price_lem in
       ap (line_after 2) mended ∙ line₂ sheet k.good k.few k.reads ∙ ap (λ t. turn_key ++ t) price
 
@@ -75,13 +75,13 @@ module _ (sheet text : List ℕ) (k : Facts sheet) (mended : text ≡ mended_tex
         tape = ap (line_after 0) mended ∙ line₀ sheet k.good k.few k.reads;
         head = ap (line_after 1) mended ∙ line₁ sheet k.good k.few k.reads;
         price = price_kept;
-        written_out = price_written;
+        written_out = price_written_here;
         rule = ap (line_after 3) mended ∙ line₃ sheet k.good k.few k.reads;
         files = λ i. ⊎_elim (old_file i) (new_file i);
       }
 
 pub mender_leaves_alone : MenderLeavesAlone
-mender_leaves_alone sheet text m = left_alone sheet text (known sheet text m) (text-mended sheet text m)
+mender_leaves_alone sheet text m = left_alone sheet text (known sheet text m) (text_mended sheet text m)
 
 -- Nothing is listed.
 both_empty : (s t : List ℕ) → s ++ t ≡ [] → (s ≡ []) × (t ≡ [])
@@ -161,12 +161,12 @@ unlisted sheet e =
 
 module _ (sheet : List ℕ) (k : Facts sheet) (u : Unlisted sheet) where
   clean : Clean (wanted_files sheet) (wanted_counts sheet)
-  clean = clean_lines (wanted_files sheet) (wanted_counts sheet) u.stay (lines-even sheet k.good k.few k.reads)
+  clean = clean_lines (wanted_files sheet) (wanted_counts sheet) u.stay (lines_even sheet k.good k.few k.reads)
 
   many : length (sheet_remaining sheet) ≡ loose_wants sheet
   unfolding wanted_files
   many =
-      ap length (remaining_once sheet (wanted_files sheet) (wanted_counts sheet) refl refl (clean-remaining (wanted_files sheet) (wanted_counts sheet) clean))
+      ap length (remaining_once sheet (wanted_files sheet) (wanted_counts sheet) refl refl (clean_remaining (wanted_files sheet) (wanted_counts sheet) clean))
       ∙ length_each (λ i. first_in want_key (line_after i (loose_want_text sheet))) (loose_wants sheet)
 
   said : wants_said sheet ≡ loose_wants sheet
@@ -180,10 +180,10 @@ module _ (sheet : List ℕ) (k : Facts sheet) (u : Unlisted sheet) where
   taken = rw (le-ltb longest_sheet (length sheet) k.within, strict sheet k.good u.files said few_lines)
 
   in_order : Clean (sheet_run sheet).numbers (sheet_run sheet).counts
-  in_order = rw (numbers-read sheet k.good u.files said few_lines, counts-read sheet k.good u.files said few_lines) clean
+  in_order = rw (numbers_read sheet k.good u.files said few_lines, counts_read sheet k.good u.files said few_lines) clean
 
   same : mended_text sheet ≡ sheet
-  same = same-sheet sheet taken in_order u.rule u.price
+  same = same_sheet sheet taken in_order u.rule u.price
 
 pub unlisted_is_same : UnlistedIsSame
-unlisted_is_same sheet text m none = text-mended sheet text m ∙ same sheet (known sheet text m) (unlisted sheet none)
+unlisted_is_same sheet text m none = text_mended sheet text m ∙ same sheet (known sheet text m) (unlisted sheet none)

@@ -12,7 +12,7 @@ use lib.Dec.{eqb}
 use borrow.Author.Tests.{eq-eqb, not-true, not-false}
 use Rattle.refusals.specs.declared.Refusal.TheVariants.{BadLine}
 use Rattle.refusals.specs.Refusals.{refuse_at, first_where}
-use Rattle.runs.proofs.Search.{true_or_false, first-zero, first_all}
+use Rattle.runs.proofs.Search.{true_or_false, first_zero, first_all}
 use Rattle.text_bytes.specs.Text.{line_feed, is_empty, has, behind}
 use Rattle.text_lines.specs.Lines.{line_of, after_lines, line_after, is_number_line, is_pair_line, is_triple_line, first_bad_of, lines_before}
 use Rattle.sheet_reader.specs.Lines.{tape_key, head_key, turn_key, rule_key, files_key, file_key, wants_key, want_key, is_tape_line, is_turn_line, is_rule_line}
@@ -20,12 +20,12 @@ use Rattle.sheet_reader.specs.Sheet.{longest_sheet, most_sheet_files, file_text,
 use Rattle.sheet_loose.specs.Loose.{loose_files, loose_wants_text, loose_want_text, loose_wants, loose_end, first_bad_loose_top, first_bad_loose_below, first_bad_loose}
 use Rattle.sheet_loose.proofs.Passing.{wants_long}
 use Rattle.sheet_loose.proofs.Wants.{lines_good, want_text_ends, wants_few}
-use Rattle.answer_mend.proofs.Texts.{few-files}
+use Rattle.answer_mend.proofs.Texts.{few_files}
 use Rattle.demands.specs.RefusalTable.{FirstBad}
 use Rattle.demands.specs.Lines.{Stands, Name, Number, NumberOrNothing, RuleName}
 use Rattle.demands.proofs.Tests.{Tells, tells_not, tells_holds}
 use Rattle.demands.proofs.Checks.{Decides, refused, passed, found_at}
-use Rattle.demands.proofs.Lines.{tells-tape, tells-turn, tells-rule, tells-number, tells-pair-line, tells-triple-line, tells-end}
+use Rattle.demands.proofs.Lines.{tells_tape, tells_turn, tells_rule, tells_number, tells_pair_line, tells_triple_line, tells_end}
 use Rattle.demands.proofs.FirstLine.{Search, joined, ended, one_line, after_both}
 use Rattle.promises.specs.Mender.{FileLine, WantLine, Come, FileLines, NotMended}
 use Rattle.promises.proofs.Again.{come_so_many}
@@ -40,7 +40,7 @@ module _ (test : List ℕ → Bool) (most : ℕ) (text : List ℕ) where
   unfolding first_bad_of
   come_good i l =
       not-false (test (line_after i text))
-      (first-zero (λ j. not (test (line_after j text))) (lines_before most (first_bad_of test most text)) (lines_good test most text) i l)
+      (first_zero (λ j. not (test (line_after j text))) (lines_before most (first_bad_of test most text)) (lines_good test most text) i l)
 
   come_end : lines_before most (first_bad_of test most text) < most → test (line_after (lines_before most (first_bad_of test most text)) text) ≡ false
   unfolding first_bad_of
@@ -97,25 +97,25 @@ module _ (sheet : List ℕ) where
   unfolding loose_end
   end_behind_here = ap (after_lines W) body_behind ∙ after_both W (6 + F) (6 + F + W) sheet refl
 
-  pub file_at : (k : ℕ) → line_after k (file_text sheet) ≡ line_after (5 + k) sheet
+  pub file_at_lem : (k : ℕ) → line_after k (file_text sheet) ≡ line_after (5 + k) sheet
   unfolding file_text
-  file_at_here k = ap line_of (after_both k 5 (5 + k) sheet refl)
+  file_at_lem k = ap line_of (after_both k 5 (5 + k) sheet refl)
 
-  pub want_at : (k : ℕ) → line_after k (loose_want_text sheet) ≡ line_after (6 + F + k) sheet
-  want_at_here k = ap (λ t. line_after k t) body_behind ∙ ap line_of (after_both k (6 + F) (6 + F + k) sheet refl)
+  pub want_at_lem : (k : ℕ) → line_after k (loose_want_text sheet) ≡ line_after (6 + F + k) sheet
+  want_at_lem k = ap (λ t. line_after k t) body_behind ∙ ap line_of (after_both k (6 + F) (6 + F + k) sheet refl)
 
   tells_file : (k : ℕ) → Tells (is_triple_line file_key (line_after k (file_text sheet))) (FileLine sheet (5 + k))
   unfolding has
-  tells_file k = rw (file_at_here k) (tells-triple-line sheet (5 + k) file_key (omega arith) refl)
+  tells_file k = rw (file_at_lem k) (tells_triple_line sheet (5 + k) file_key (omega arith) refl)
 
   tells_want : (k : ℕ) → Tells (is_pair_line want_key (line_after k (loose_want_text sheet))) (WantLine sheet (6 + F + k))
   unfolding has
-  tells_want k = rw (want_at_here k) (tells-pair-line sheet (6 + F + k) want_key (omega arith) refl)
+  tells_want k = rw (want_at_lem k) (tells_pair_line sheet (6 + F + k) want_key (omega arith) refl)
 
   -- The file lines and the want lines that come, and no others.
-  pub file_lines_here : (k : ℕ) → k < F → FileLine sheet (5 + k)
+  pub file_lines_lem : (k : ℕ) → k < F → FileLine sheet (5 + k)
   unfolding loose_files
-  file_lines_here k l = (tells_file k).when_true (come_good (is_triple_line file_key) most_sheet_files (file_text sheet) k l)
+  file_lines_lem k l = (tells_file k).when_true (come_good (is_triple_line file_key) most_sheet_files (file_text sheet) k l)
 
   no_file_here : F < 256 → FileLine sheet (5 + F) → ⊥
   unfolding loose_files
@@ -126,18 +126,18 @@ module _ (sheet : List ℕ) where
   so_many_files n few each no_more =
       come_so_many (is_triple_line file_key) most_sheet_files n (file_text sheet) few (λ i l. tells_holds _ (tells_file i) (each i l)) (λ m. tells_fails _ (tells_file n) (no_more m))
 
-  pub want_lines : (k : ℕ) → k < W → WantLine sheet (6 + F + k)
+  pub want_lines_lem : (k : ℕ) → k < W → WantLine sheet (6 + F + k)
   unfolding loose_wants
-  want_lines_here k l = (tells_want k).when_true (come_good (is_pair_line want_key) longest_sheet (loose_want_text sheet) k l)
+  want_lines_lem k l = (tells_want k).when_true (come_good (is_pair_line want_key) longest_sheet (loose_want_text sheet) k l)
 
   files_or_more : FileLines sheet F ⊎ ((F ≡ 256) × FileLine sheet (5 + 256))
   files_or_more =
       by_cases (dec_lt F 256)
-      (λ l. inl (record { each = file_lines_here; no_more = no_file_here l }, few-files sheet))
-      (λ n. let full : F ≡ 256 = omega (arith, few-files sheet) in
+      (λ l. inl (record { each = file_lines_lem; no_more = no_file_here l }, few_files sheet))
+      (λ n. let full : F ≡ 256 = omega (arith, few_files sheet) in
       ⊎_elim
       (λ (t : is_triple_line file_key (line_after F (file_text sheet)) ≡ true). inr (full, rw full at ((tells_file F).when_true t)))
-      (λ (f : is_triple_line file_key (line_after F (file_text sheet)) ≡ false). inl (record { each = file_lines_here; no_more = (tells_file F).when_false f }, few-files sheet))
+      (λ (f : is_triple_line file_key (line_after F (file_text sheet)) ≡ false). inl (record { each = file_lines_lem; no_more = (tells_file F).when_false f }, few_files sheet))
       (true_or_false (is_triple_line file_key (line_after F (file_text sheet)))))
 
   module _ (short : length sheet ≤ 16384) where
@@ -176,15 +176,15 @@ module _ (sheet : List ℕ) where
         let rule = is_rule_line (line_after 3 sheet) in
         let files = is_number_line files_key (line_after 4 sheet) in
         joined (unless tape 1) (unless head 2 ∷ unless turn 3 ∷ unless rule 4 ∷ unless files 5 ∷ []) (omega arith) (omega arith) (omega arith)
-        (one_line (Stands tape_key Name sheet) tape 0 1 refl (tells-tape sheet 0))
+        (one_line (Stands tape_key Name sheet) tape 0 1 refl (tells_tape sheet 0))
         (joined (unless head 2) (unless turn 3 ∷ unless rule 4 ∷ unless files 5 ∷ []) (omega arith) (omega arith) (omega arith)
-        (one_line (Stands head_key Number sheet) head 1 2 refl (tells-number sheet 1 head_key (omega arith) refl))
+        (one_line (Stands head_key Number sheet) head 1 2 refl (tells_number sheet 1 head_key (omega arith) refl))
         (joined (unless turn 3) (unless rule 4 ∷ unless files 5 ∷ []) (omega arith) (omega arith) (omega arith)
-        (one_line (Stands turn_key NumberOrNothing sheet) turn 2 3 refl (tells-turn sheet 2))
+        (one_line (Stands turn_key NumberOrNothing sheet) turn 2 3 refl (tells_turn sheet 2))
         (joined (unless rule 4) (unless files 5 ∷ []) (omega arith) (omega arith) (omega arith)
-        (one_line (Stands rule_key RuleName sheet) rule 3 4 refl (tells-rule sheet 3))
+        (one_line (Stands rule_key RuleName sheet) rule 3 4 refl (tells_rule sheet 3))
         (joined (unless files 5) [] (omega arith) (omega arith) (omega arith)
-        (one_line (Stands files_key Number sheet) files 4 5 refl (tells-number sheet 4 files_key (omega arith) refl))
+        (one_line (Stands files_key Number sheet) files 4 5 refl (tells_number sheet 4 files_key (omega arith) refl))
         (ended 5)))))
 
     below_search : Search BelowIsBad (first_bad_loose_below sheet) (5 + F) (7 + F + W)
@@ -193,9 +193,9 @@ module _ (sheet : List ℕ) where
         let count = is_number_line wants_key (line_of (loose_wants_text sheet)) in
         let done = is_empty (loose_end sheet) in
         joined (unless count (F + 6)) (unless done (F + W + 7) ∷ []) (omega arith) (omega arith) (omega arith)
-        (one_line (Stands wants_key Number sheet) count (5 + F) (F + 6) (omega arith) (rw tail_behind (tells-number sheet (5 + F) wants_key (omega arith) refl)))
+        (one_line (Stands wants_key Number sheet) count (5 + F) (F + 6) (omega arith) (rw tail_behind (tells_number sheet (5 + F) wants_key (omega arith) refl)))
         (joined (unless done (F + W + 7)) [] (omega arith) (omega arith) (omega arith)
-        (one_line (λ j. after_lines j sheet ≡ []) done (6 + F + W) (F + W + 7) (omega arith) (rw end_behind_here (tells-end sheet (6 + F + W))))
+        (one_line (λ j. after_lines j sheet ≡ []) done (6 + F + W) (F + W + 7) (omega arith) (rw end_behind_here (tells_end sheet (6 + F + W))))
         (ended (7 + F + W)))
 
     line_search : Search (λ i. TopIsBad i ⊎ (BelowIsBad i ⊎ ⊥)) (first_bad_loose sheet) 0 (7 + F + W)
@@ -237,12 +237,12 @@ module _ (sheet : List ℕ) where
         at_wants h =
             ⊎_elim (λ come. NotMended.wants come h.0 h.1)
             (λ more. NotMended.file_257 (omega (arith, h.0, more.0)) (λ j l.
-            by_cases (dec_lt j F) (λ m. file_lines_here j m) (λ n. let last : 5 + 256 ≡ 5 + j = omega (arith, more.0) in rw last at more.1)))
+            by_cases (dec_lt j F) (λ m. file_lines_lem j m) (λ n. let last : 5 + 256 ≡ 5 + j = omega (arith, more.0) in rw last at more.1)))
             files_or_more
 
         at_end : Unless (λ j. after_lines j sheet ≡ []) (6 + F + W) i → NotMended sheet i
         at_end h =
-            ⊎_elim (λ come. NotMended.beyond come (record { each = want_lines_here; no_more = no_want }) h.0 h.1)
+            ⊎_elim (λ come. NotMended.beyond come (record { each = want_lines_lem; no_more = no_want }) h.0 h.1)
             (λ more.
             let there : 5 + 256 ≡ 5 + F = omega (arith, more.0) in
             absurd (first (5 + F) (omega (arith, h.0)) (inr (inl (inl (refl, λ s. keys_apart file_key wants_key refl (rw there at more.1) s))))))
@@ -277,12 +277,12 @@ module _ (sheet : List ℕ) where
     end : 6 + F + W ≤ i → after_lines i sheet ≡ [] → LineIs i
 
   module _ (good : first_bad_loose sheet ≡ 0) where
-    pub nothing_behind_here : after_lines (6 + F + W) sheet ≡ []
-    nothing_behind_here = (tells-end sheet (6 + F + W)).when_true (rw end_behind_here at (described sheet good).end)
+    pub nothing_behind : after_lines (6 + F + W) sheet ≡ []
+    nothing_behind = (tells_end sheet (6 + F + W)).when_true (rw end_behind_here at (described sheet good).end)
 
     pub wants_there : Stands wants_key Number sheet (5 + F)
     unfolding has
-    wants_there = (tells-number sheet (5 + F) wants_key (omega arith) refl).when_true (rw tail_behind at (described sheet good).wants)
+    wants_there = (tells_number sheet (5 + F) wants_key (omega arith) refl).when_true (rw tail_behind at (described sheet good).wants)
 
     pub files_come : FileLines sheet F
     files_come =
@@ -291,21 +291,21 @@ module _ (sheet : List ℕ) where
     line_below : (i : ℕ) → 5 ≤ i → LineIs i
     line_below i five =
         by_cases (dec_lt i (5 + F))
-        (λ l. let is : 5 + (i - 5) ≡ i = omega arith in file (i - 5) (sym is) (omega arith) (rw is at (file_lines_here (i - 5) (omega arith))))
+        (λ l. let is : 5 + (i - 5) ≡ i = omega arith in file (i - 5) (sym is) (omega arith) (rw is at (file_lines_lem (i - 5) (omega arith))))
         (λ n. by_cases (dec_lt i (6 + F))
         (λ l. let is : 5 + F ≡ i = omega arith in
         wants (rw is at wants_there))
         (λ m. by_cases (dec_lt i (6 + F + W))
-        (λ l. let is : 6 + F + (i - (6 + F)) ≡ i = omega arith in want (i - (6 + F)) (sym is) (omega arith) (rw is at (want_lines_here (i - (6 + F)) (omega arith))))
-        (λ l. end (omega arith) (sym (after_both (i - (6 + F + W)) (6 + F + W) i sheet (omega arith)) ∙ after_nothing (i - (6 + F + W)) (after_lines (6 + F + W) sheet) nothing_behind_here))))
+        (λ l. let is : 6 + F + (i - (6 + F)) ≡ i = omega arith in want (i - (6 + F)) (sym is) (omega arith) (rw is at (want_lines_lem (i - (6 + F)) (omega arith))))
+        (λ l. end (omega arith) (sym (after_both (i - (6 + F + W)) (6 + F + W) i sheet (omega arith)) ∙ after_nothing (i - (6 + F + W)) (after_lines (6 + F + W) sheet) nothing_behind))))
 
     pub line_is : (i : ℕ) → LineIs i
     unfolding has
-    line_is zero = tape ((tells-tape sheet 0).when_true (described sheet good).tape)
-    line_is (suc zero) = head ((tells-number sheet 1 head_key (omega arith) refl).when_true (described sheet good).head)
-    line_is (suc (suc zero)) = turn ((tells-turn sheet 2).when_true (described sheet good).turn)
-    line_is (suc (suc (suc zero))) = rule ((tells-rule sheet 3).when_true (described sheet good).rule)
-    line_is (suc (suc (suc (suc zero)))) = files ((tells-number sheet 4 files_key (omega arith) refl).when_true (described sheet good).files)
+    line_is zero = tape ((tells_tape sheet 0).when_true (described sheet good).tape)
+    line_is (suc zero) = head ((tells_number sheet 1 head_key (omega arith) refl).when_true (described sheet good).head)
+    line_is (suc (suc zero)) = turn ((tells_turn sheet 2).when_true (described sheet good).turn)
+    line_is (suc (suc (suc zero))) = rule ((tells_rule sheet 3).when_true (described sheet good).rule)
+    line_is (suc (suc (suc (suc zero)))) = files ((tells_number sheet 4 files_key (omega arith) refl).when_true (described sheet good).files)
     line_is (suc (suc (suc (suc (suc i))))) = line_below (suc (suc (suc (suc (suc i))))) (omega arith)
 
     -- Every want line and every file line is one of those that come.
@@ -339,16 +339,16 @@ module _ (sheet : List ℕ) where
 
     -- So each of them is mended.
     pub wants_come : Come (WantLine sheet) (6 + F) W
-    wants_come = record { each = want_lines_here; no_more = nothing_stands nothing_behind_here }
+    wants_come = record { each = want_lines_lem; no_more = nothing_stands nothing_behind }
 
     pub all_mended : (i : ℕ) → NotMended sheet i → ⊥
     unfolding has
-    all_mended i (NotMended.tape e n) = n (rw e ((tells-tape sheet 0).when_true (described sheet good).tape))
-    all_mended i (NotMended.head e n) = n (rw e ((tells-number sheet 1 head_key (omega arith) refl).when_true (described sheet good).head))
-    all_mended i (NotMended.turn e n) = n (rw e ((tells-turn sheet 2).when_true (described sheet good).turn))
-    all_mended i (NotMended.rule e n) = n (rw e ((tells-rule sheet 3).when_true (described sheet good).rule))
-    all_mended i (NotMended.files e n) = n (rw e ((tells-number sheet 4 files_key (omega arith) refl).when_true (described sheet good).files))
-    all_mended i (NotMended.file_257 e all) = let last = file_among (5 + 256) (all 256 (omega arith)) in omega (arith, last.1, last.2, few-files sheet)
+    all_mended i (NotMended.tape e n) = n (rw e ((tells_tape sheet 0).when_true (described sheet good).tape))
+    all_mended i (NotMended.head e n) = n (rw e ((tells_number sheet 1 head_key (omega arith) refl).when_true (described sheet good).head))
+    all_mended i (NotMended.turn e n) = n (rw e ((tells_turn sheet 2).when_true (described sheet good).turn))
+    all_mended i (NotMended.rule e n) = n (rw e ((tells_rule sheet 3).when_true (described sheet good).rule))
+    all_mended i (NotMended.files e n) = n (rw e ((tells_number sheet 4 files_key (omega arith) refl).when_true (described sheet good).files))
+    all_mended i (NotMended.file_257 e all) = let last = file_among (5 + 256) (all 256 (omega arith)) in omega (arith, last.1, last.2, few_files sheet)
     all_mended i (NotMended.wants {n} come e other) =
         let many : F ≡ n = so_many_files n come.1 come.0.each (λ l. come.0.no_more) in
         let here : i ≡ 5 + F = omega arith in
@@ -356,7 +356,7 @@ module _ (sheet : List ℕ) where
     all_mended i (NotMended.beyond {n} {m} come below e more) =
         let many : F ≡ n = so_many_files n come.1 come.0.each (λ l. come.0.no_more) in
         let lines : Come (WantLine sheet) (6 + F) m = rw (← many) at below in
-        let few : W < m → ⊥ = λ l. nothing_stands nothing_behind_here (lines.each W l) in
-        let all : m < W → ⊥ = λ l. lines.no_more (want_lines_here m l) in
+        let few : W < m → ⊥ = λ l. nothing_stands nothing_behind (lines.each W l) in
+        let all : m < W → ⊥ = λ l. lines.no_more (want_lines_lem m l) in
         let here : i ≡ 6 + F + W = omega arith in
-        more (rw here nothing_behind_here)
+        more (rw here nothing_behind)

@@ -20,15 +20,15 @@ use Rattle.sheet_writer.proofs.Reread.{key_value}
 use Rattle.sheet_loose.specs.Loose.{loose_files, loose_wants, loose_wants_text, loose_want_text, wants_said, first_bad_loose, wanted_files, wanted_counts}
 use Rattle.answer_mend.specs.Wants.{remaining, reads_in_all}
 use Rattle.answer_mend.specs.Mending.{sheet_remaining}
-use Rattle.demands.proofs.Tests.{Tells, tells_equal, tells_below, tells_not, tells-some, tells_reworded}
+use Rattle.demands.proofs.Tests.{Tells, tells_equal, tells_below, tells_not, tells_some, tells_reworded}
 use Rattle.demands.specs.Lines.{Stands, Number}
 use Rattle.demands.proofs.SheetLines.{each_value}
 use Rattle.demands.proofs.Canonical.{number_text}
-use Rattle.demands.proofs.Lines.{tells-number, number_flat, pair_flat, line_read}
+use Rattle.demands.proofs.Lines.{tells_number, number_flat, pair_flat, line_read}
 use Rattle.promises.specs.Mender.{WantLine, Asks, HasReads, WantsRemain, CountsFrom, end, want, other, PartsRead, PartsAreRead}
 use Rattle.promises.proofs.Gathered.{Rising, remaining_rising, rising_least, rising_at, is_in, in_at, find_in, asks, in_remaining}
 use Rattle.promises.proofs.Taken.{reads_total}
-use Rattle.promises.proofs.MenderLines.{tail-behind, all-mended, files-come, wants-come, wants-there, want_lines, want_at, want-among, nothing_stands, nothing_behind}
+use Rattle.promises.proofs.MenderLines.{tail_behind, all_mended, files_come, wants_come, wants_there, want_lines_lem, want_at_lem, want_among, nothing_stands, nothing_behind}
 use Rattle.promises.proofs.Described.{described}
 
 -- What a want line asks for stands on it, and each asks for something.
@@ -119,27 +119,27 @@ module _ (sheet : List ℕ) (good : first_bad_loose sheet ≡ 0) where
 
   named_at : (k : ℕ) → k < W → get_or files k 0 ≡ first_in want_key (line_after (6 + F + k) sheet)
   unfolding wanted_files
-  named_at k l = each_value (λ i. first_in want_key (line_after i (loose_want_text sheet))) W k l ∙ ap (first_in want_key) (want_at sheet k)
+  named_at k l = each_value (λ i. first_in want_key (line_after i (loose_want_text sheet))) W k l ∙ ap (first_in want_key) (want_at_lem sheet k)
 
   counted_at_here : (k : ℕ) → k < W → get_or counts k 0 ≡ second_in want_key (line_after (6 + F + k) sheet)
   unfolding wanted_counts
-  counted_at_here k l = each_value (λ i. second_in want_key (line_after i (loose_want_text sheet))) W k l ∙ ap (second_in want_key) (want_at sheet k)
+  counted_at_here k l = each_value (λ i. second_in want_key (line_after i (loose_want_text sheet))) W k l ∙ ap (second_in want_key) (want_at_lem sheet k)
 
   asks_at : (k : ℕ) → k < W → Asks sheet (6 + F + k) (get_or files k 0) (get_or counts k 0)
-  asks_at k l = rw (named_at k l, counted_at_here k l) (line_asks sheet (6 + F + k) (want_lines sheet k l))
+  asks_at k l = rw (named_at k l, counted_at_here k l) (line_asks sheet (6 + F + k) (want_lines_lem sheet k l))
 
   parts_read : PartsRead sheet
   unfolding sheet_files wants_said has
   parts_read =
-      let top = (tells-number sheet 4 files_key (omega arith) refl).when_true (described sheet good).files in
+      let top = (tells_number sheet 4 files_key (omega arith) refl).when_true (described sheet good).files in
       record {
-        mended = all-mended sheet good;
-        table = files-come sheet good;
-        wants = wants-come sheet good;
+        mended = all_mended sheet good;
+        table = files_come sheet good;
+        wants = wants_come sheet good;
         even = (files_long, counts_long);
         each = asks_at;
         files_said = said files_key refl sheet 4 (number_behind files_key (line_after 4 sheet)) refl top;
-        wants_said = said wants_key refl sheet (5 + F) (number_behind wants_key (line_of (loose_wants_text sheet))) (ap (λ t. number_behind wants_key (line_of t)) (tail-behind sheet)) (wants-there sheet good);
+        wants_said = said wants_key refl sheet (5 + F) (number_behind wants_key (line_of (loose_wants_text sheet))) (ap (λ t. number_behind wants_key (line_of t)) (tail_behind sheet)) (wants_there sheet good);
       }
 
   -- A file has reads exactly when it is among those that remain.
@@ -155,7 +155,7 @@ module _ (sheet : List ℕ) (good : first_bad_loose sheet ≡ 0) where
 
   pub remains : (x : ℕ) → HasReads sheet x → is_in x row ≡ true
   remains x h =
-      let among = want-among sheet good h.at h.asks.line in
+      let among = want_among sheet good h.at h.asks.line in
       let k = among.0 in
       let a = rw among.2 at h.asks in
       let read = asks_read sheet (6 + F + k) x h.count a in
@@ -166,7 +166,7 @@ module _ (sheet : List ℕ) (good : first_bad_loose sheet ≡ 0) where
 
   pub has_reads : (x : ℕ) → is_in x row ≡ true → HasReads sheet x
   has_reads x e =
-      let found = (tells-some (asks files counts x) (λ i. (get_or files i 0 ≡ x) × (get_or counts i 0 ≡ 0 → ⊥)) (tells_asks x) (length files)).when_true (sym (in_remaining files counts x (length files)) ∙ e) in
+      let found = (tells_some (asks files counts x) (λ i. (get_or files i 0 ≡ x) × (get_or counts i 0 ≡ 0 → ⊥)) (tells_asks x) (length files)).when_true (sym (in_remaining files counts x (length files)) ∙ e) in
       let k = found.0 in
       record { at = 6 + F + k; count = get_or counts k 0; asks = rw found.2.0 at (asks_at k (omega (arith, found.1, files_long))); some = found.2.1 }
 
@@ -195,15 +195,15 @@ module _ (sheet : List ℕ) (good : first_bad_loose sheet ≡ 0) where
 
   above_counted : (d i n : ℕ) → i + d ≡ 6 + F → CountsFrom sheet (6 + F) n → CountsFrom sheet i n
   above_counted zero i n e c = let same : i ≡ 6 + F = omega arith in rw same c
-  above_counted (suc d) i n e c = other (λ s. omega (arith, (want-among sheet good i s).2)) (above_counted d (suc i) n (omega arith) c)
+  above_counted (suc d) i n e c = other (λ s. omega (arith, (want_among sheet good i s).2)) (above_counted d (suc i) n (omega arith) c)
 
   all_counted_here : CountsFrom sheet 0 (total counts)
   all_counted_here =
       let first : 6 + F + 0 ≡ 6 + F = omega arith in
       above_counted (6 + F) 0 (total counts) (omega arith) (rw first at (wants_counted W 0 (omega arith)))
 
-  pub tells_reads_here : Tells (ltb most_reads (reads_in_all counts)) ((n : ℕ) × CountsFrom sheet 0 n × (1024 < n))
-  tells_reads_here =
+  pub tells_reads : Tells (ltb most_reads (reads_in_all counts)) ((n : ℕ) × CountsFrom sheet 0 n × (1024 < n))
+  tells_reads =
       tells_reworded (λ l. (total counts, all_counted_here, omega (arith, reads_total counts, l))) (λ h. omega (arith, counts_once h.1 all_counted_here, reads_total counts, h.2))
       (tells_below most_reads (reads_in_all counts))
 

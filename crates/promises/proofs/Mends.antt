@@ -31,18 +31,18 @@ use Rattle.answer_mend.specs.declared.wants.Fate.TheVariants.{Stays, Moved, Adde
 use Rattle.answer_mend.specs.Wants.{reads_in_all, asked_of, reads_of_want, same_above, higher_above, fate_of}
 use Rattle.answer_mend.specs.Mending.{first_lines, sheet_remaining, sheet_reads, mended_text, change_if, changes_text, fate_line, fate_lines, wants_verdicts, texts_verdicts, mend_verdict, SheetMended}
 use Rattle.answer_mend.proofs.Answers.{mend_determined}
-use Rattle.demands.proofs.Judged.{nothing-judged}
+use Rattle.demands.proofs.Judged.{nothing_judged}
 use Rattle.promises.specs.Mends.{InRows, MendedRows, MendingDetermined, WasMended, SameReads, ReadsKept, SheetInOrder, MendedInOrder, MendedIsRead, SameFile, HigherFile, FateBy, FatesByConditions, FateSaid, FatesSaid, ListedWhen, EveryChangeListed, OnceIsEnough, AcceptedComesBack, AcceptedAsWritten, AcceptedTaken}
-use Rattle.promises.proofs.Gathered.{rising_at, Clean, remaining_clean, clean-remaining, clean-each, clean-stays, reads_kept, total_kept}
+use Rattle.promises.proofs.Gathered.{rising_at, Clean, remaining_clean, clean_remaining, clean_each, clean_stays, reads_kept, total_kept}
 use Rattle.runs.specs.Judging.{judge_of}
 use Rattle.text_lines.specs.Lines.{after_lines, line_after, value_text, first_in}
 use Rattle.sheet_reader.specs.Reading.{sheet_verdict, rule_verdict}
-use Rattle.promises.proofs.Early.{none-early, early-read, early-least}
-use Rattle.promises.proofs.Same.{empty_is, fair_wants, old-sheet, new-sheet, same-sheet, one-change}
-use Rattle.promises.proofs.Written.{written-so, mended-short}
-use Rattle.promises.proofs.Taken.{reads_total, reads_by_file, taken, five-longer}
-use Rattle.promises.proofs.Strict.{strict, numbers-read, counts-read}
-use Rattle.promises.proofs.Again.{lines-even, upper-again, turn-again, price-there, rule-there, files_said, files-again, table-again, wants_said, wants-again, named_again, asked-again, good-again, remaining_once, reads_once, fates_none}
+use Rattle.promises.proofs.Early.{none_early, early_read, early_least}
+use Rattle.promises.proofs.Same.{empty_is, fair_wants, old_sheet_lem, new_sheet, same_sheet, one_change}
+use Rattle.promises.proofs.Written.{written_so, mended_short}
+use Rattle.promises.proofs.Taken.{reads_total, reads_by_file, taken, five_longer}
+use Rattle.promises.proofs.Strict.{strict, numbers_read, counts_read}
+use Rattle.promises.proofs.Again.{lines_even, upper_again, turn_again, price_there, rule_there, files_said, files_again, table_again, wants_said_lem, wants_again, named_again, asked_again, good_again, remaining_once, reads_once, fates_none}
 
 accepted_passes : (kind : Refusal) → kind ≡ Accepted → is_refusal kind ≡ false
 accepted_passes kind e = rw e
@@ -132,37 +132,37 @@ module _ (sheet text : List ℕ) (k : Facts sheet) (e : text ≡ mended_text she
   named = ap wanted_files e ∙ named_again sheet k.good k.few k.reads
 
   counted : wanted_counts text ≡ asked
-  counted = ap wanted_counts e ∙ asked-again sheet k.good k.few k.reads
+  counted = ap wanted_counts e ∙ asked_again sheet k.good k.few k.reads
 
   total_is : reads_in_all asked ≡ reads_in_all (wanted_counts sheet)
   unfolding sheet_remaining sheet_reads
-  total_is = total_kept (wanted_files sheet) (wanted_counts sheet) (lines-even sheet k.good k.few k.reads)
+  total_is = total_kept (wanted_files sheet) (wanted_counts sheet) (lines_even sheet k.good k.few k.reads)
 
   row_clean : Clean row asked
   unfolding sheet_remaining sheet_reads
   row_clean = remaining_clean (wanted_files sheet) (wanted_counts sheet)
 
-  file_kept : (file : ℕ) → reads_of_want row asked file ≡ reads_of_want (wanted_files sheet) (wanted_counts sheet) file
+  file_kept_here : (file : ℕ) → reads_of_want row asked file ≡ reads_of_want (wanted_files sheet) (wanted_counts sheet) file
   unfolding sheet_remaining sheet_reads
-  file_kept file = reads_kept (wanted_files sheet) (wanted_counts sheet) file
+  file_kept_here file = reads_kept (wanted_files sheet) (wanted_counts sheet) file
 
   pub same_reads : SameReads sheet text
   same_reads =
       record {
         each = λ file.
             rw (named, counted)
-            (sym (reads_by_file row asked row_clean.even file) ∙ file_kept file ∙ reads_by_file (wanted_files sheet) (wanted_counts sheet) (lines-even sheet k.good k.few k.reads) file);
+            (sym (reads_by_file row asked row_clean.even file) ∙ file_kept_here file ∙ reads_by_file (wanted_files sheet) (wanted_counts sheet) (lines_even sheet k.good k.few k.reads) file);
         in_all = rw counted (sym (reads_total asked) ∙ total_is ∙ reads_total (wanted_counts sheet));
       }
 
   pub in_order : SheetInOrder text
   in_order =
       record {
-        described = ap first_bad_loose e ∙ good-again sheet k.good k.few k.reads;
+        described = ap first_bad_loose e ∙ good_again sheet k.good k.few k.reads;
         wants = rw (named, counted) (record { even = row_clean.even; ascending = λ i j. rising_at 0 row row_clean.rising i j; some = row_clean.some });
         few = rw named k.few;
-        files_said = rw e (files_said sheet k.good k.few k.reads ∙ sym (files-again sheet k.good k.few k.reads));
-        wants_said = rw e (wants_said sheet k.good k.few k.reads ∙ sym (wants-again sheet k.good k.few k.reads));
+        files_said = rw e (files_said sheet k.good k.few k.reads ∙ sym (files_again sheet k.good k.few k.reads));
+        wants_said = rw e (wants_said_lem sheet k.good k.few k.reads ∙ sym (wants_again sheet k.good k.few k.reads));
       }
 
 pub reads_are_kept : ReadsKept
@@ -178,12 +178,12 @@ mended_is_read sheet text m =
     let e = text_mended sheet text m in
     let order = in_order sheet text k e in
     let short : length text ≤ longest_sheet = rw e (not_long sheet text m) in
-    let few : loose_wants text ≤ most_wants = rw (e, wants-again sheet k.good k.few k.reads) k.few in
-    let least : says_sweep text ≡ false = ap says_sweep e ∙ rule-there sheet k.good k.few k.reads in
+    let few : loose_wants text ≤ most_wants = rw (e, wants_again sheet k.good k.few k.reads) k.few in
+    let least : says_sweep text ≡ false = ap says_sweep e ∙ rule_there sheet k.good k.few k.reads in
     record {
-      taken = none-early text (rw (le-ltb longest_sheet (length text) short, strict text order.described order.files_said order.wants_said few)) (rw least);
-      numbers = numbers-read text order.described order.files_said order.wants_said few;
-      counts = counts-read text order.described order.files_said order.wants_said few;
+      taken = none_early text (rw (le-ltb longest_sheet (length text) short, strict text order.described order.files_said order.wants_said few)) (rw least);
+      numbers = numbers_read text order.described order.files_said order.wants_said few;
+      counts = counts_read text order.described order.files_said order.wants_said few;
     }
 
 -- A sheet with the parts of another has its mended text; one with nothing to change lists none.
@@ -201,18 +201,18 @@ module _ (sheet text : List ℕ) (m : WasMended sheet text) where
   known₂ : Facts sheet
   known₂ = known sheet text m
 
-  wants_same : sheet_remaining text ≡ sheet_remaining sheet
-  wants_same = remaining_once text (sheet_remaining sheet) (sheet_reads sheet) (named sheet text (known sheet text m) (text_mended sheet text m)) (counted sheet text (known sheet text m) (text_mended sheet text m)) (clean-remaining (sheet_remaining sheet) (sheet_reads sheet) (row_clean sheet text (known sheet text m) (text_mended sheet text m)))
+  wants_same_here : sheet_remaining text ≡ sheet_remaining sheet
+  wants_same_here = remaining_once text (sheet_remaining sheet) (sheet_reads sheet) (named sheet text (known sheet text m) (text_mended sheet text m)) (counted sheet text (known sheet text m) (text_mended sheet text m)) (clean_remaining (sheet_remaining sheet) (sheet_reads sheet) (row_clean sheet text (known sheet text m) (text_mended sheet text m)))
 
   reads_same : sheet_reads text ≡ sheet_reads sheet
-  reads_same = reads_once text (sheet_remaining sheet) (sheet_reads sheet) (named sheet text (known sheet text m) (text_mended sheet text m)) (counted sheet text (known sheet text m) (text_mended sheet text m)) wants_same (clean-each (sheet_remaining sheet) (sheet_reads sheet) (row_clean sheet text (known sheet text m) (text_mended sheet text m)))
+  reads_same = reads_once text (sheet_remaining sheet) (sheet_reads sheet) (named sheet text (known sheet text m) (text_mended sheet text m)) (counted sheet text (known sheet text m) (text_mended sheet text m)) wants_same_here (clean_each (sheet_remaining sheet) (sheet_reads sheet) (row_clean sheet text (known sheet text m) (text_mended sheet text m)))
 
   mended_again : mended_text text ≡ text
   mended_again =
       let k = known₂ in
       let e = text_mended sheet text m in
-      same_parts text sheet (ap (first_lines 2) e ∙ upper-again sheet k.good k.few k.reads) (ap sheet_turn e ∙ turn-again sheet k.good k.few k.reads)
-      (ap (λ t. first_lines (loose_files t) (file_text t)) e ∙ table-again sheet k.good k.few k.reads) (ap loose_files e ∙ files-again sheet k.good k.few k.reads) wants_same reads_same
+      same_parts text sheet (ap (first_lines 2) e ∙ upper_again sheet k.good k.few k.reads) (ap sheet_turn e ∙ turn_again sheet k.good k.few k.reads)
+      (ap (λ t. first_lines (loose_files t) (file_text t)) e ∙ table_again sheet k.good k.few k.reads) (ap loose_files e ∙ files_again sheet k.good k.few k.reads) wants_same_here reads_same
       ∙ sym e
 
   unchanged : changes_text text ≡ []
@@ -220,10 +220,10 @@ module _ (sheet text : List ℕ) (m : WasMended sheet text) where
       let k = known₂ in
       let e = text_mended sheet text m in
       let order = in_order sheet text k e in
-      no_changes text (ap price_left_out e ∙ price-there sheet k.good k.few k.reads) (ap says_sweep e ∙ rule-there sheet k.good k.few k.reads) order.files_said
-      (ap wants_said e ∙ wants_said sheet k.good k.few k.reads ∙ ap length (sym wants_same))
+      no_changes text (ap price_left_out e ∙ price_there sheet k.good k.few k.reads) (ap says_sweep e ∙ rule_there sheet k.good k.few k.reads) order.files_said
+      (ap wants_said e ∙ wants_said_lem sheet k.good k.few k.reads ∙ ap length (sym wants_same_here))
       (rw (named sheet text k e, counted sheet text k e)
-      (fates_none (loose_files text + 6) (sheet_remaining sheet) (sheet_reads sheet) (length (sheet_remaining sheet)) (clean-stays (sheet_remaining sheet) (sheet_reads sheet) (row_clean sheet text k e))))
+      (fates_none (loose_files text + 6) (sheet_remaining sheet) (sheet_reads sheet) (length (sheet_remaining sheet)) (clean_stays (sheet_remaining sheet) (sheet_reads sheet) (row_clean sheet text k e))))
 
   -- Given a row that takes it, it is accepted.
   accepted_again : (out notes : List ℕ) → length text ≤ length out → mend_verdict text out notes ≡ accepted
@@ -236,7 +236,7 @@ module _ (sheet text : List ℕ) (m : WasMended sheet text) where
       rw (
         le-ltb longest_sheet (length text) short,
         (in_order sheet text k e).described,
-        wants_same,
+        wants_same_here,
         le-ltb most_wants (length (sheet_remaining sheet)) k.few,
         le-ltb most_reads (reads_in_all (wanted_counts text)) reads,
         mended_again,
@@ -360,8 +360,8 @@ unfolding changes_text says_sweep
 every_change_listed sheet text m =
     let k = known sheet text m in
     let e = text_mended sheet text m in
-    let files-are : loose_files text ≡ loose_files sheet = ap loose_files e ∙ files-again sheet k.good k.few k.reads in
-    let wants-are : loose_wants text ≡ length (sheet_remaining sheet) = ap loose_wants e ∙ wants-again sheet k.good k.few k.reads in
+    let files-are : loose_files text ≡ loose_files sheet = ap loose_files e ∙ files_again sheet k.good k.few k.reads in
+    let wants-are : loose_wants text ≡ length (sheet_remaining sheet) = ap loose_wants e ∙ wants_again sheet k.good k.few k.reads in
     let fates = fate_lines (loose_files sheet + 6) (wanted_files sheet) (wanted_counts sheet) (length (wanted_files sheet)) in
     record {
       turn = change_if (price_left_out sheet) 3 (bytes "turn");
@@ -393,39 +393,39 @@ not_left_out sheet some = go (is_empty (value_text turn_key (line_after 2 sheet)
 pub accepted_comes_back : AcceptedComesBack
 unfolding sheet_run
 accepted_comes_back sheet none nothing =
-    let good : is_refusal (sheet_verdict sheet).refusal ≡ false = rw (early-read sheet none) in
-    let least = early-least sheet none in
-    let run = nothing-judged (sheet_run sheet) nothing in
+    let good : is_refusal (sheet_verdict sheet).refusal ≡ false = rw (early_read sheet none) in
+    let least = early_least sheet none in
+    let run = nothing_judged (sheet_run sheet) nothing in
     record {
       above = first_lines 2 sheet;
       back = after_lines 3 sheet;
-      old = old-sheet sheet good (fair_wants sheet run) least;
-      new = new-sheet sheet good (fair_wants sheet run) least;
-      given = λ some. same-sheet sheet good (fair_wants sheet run) least (not_left_out sheet some);
-      listed = subst (λ (part : List ℕ). ListedWhen (value_text turn_key (line_after 2 sheet) ≡ []) part 3 (bytes "turn")) (sym (one-change sheet good (fair_wants sheet run) least)) (turn_listed sheet);
+      old = old_sheet_lem sheet good (fair_wants sheet run) least;
+      new = new_sheet sheet good (fair_wants sheet run) least;
+      given = λ some. same_sheet sheet good (fair_wants sheet run) least (not_left_out sheet some);
+      listed = subst (λ (part : List ℕ). ListedWhen (value_text turn_key (line_after 2 sheet) ≡ []) part 3 (bytes "turn")) (sym (one_change sheet good (fair_wants sheet run) least)) (turn_listed sheet);
     }
 
 pub accepted_as_written : AcceptedAsWritten
-accepted_as_written sheet none nothing = written-so sheet (rw (early-read sheet none)) (nothing-judged (sheet_run sheet) nothing) (early-least sheet none)
+accepted_as_written sheet none nothing = written_so sheet (rw (early_read sheet none)) (nothing_judged (sheet_run sheet) nothing) (early_least sheet none)
 
 pub accepted_taken : AcceptedTaken
 accepted_taken sheet none nothing out notes answer out' notes' h row list =
-    record { taken = fits; given = λ some. given (not_left_out sheet some); left_out = λ e. five-longer sheet good run least (left_out_so sheet e) }
+    record { taken = fits; given = λ some. given (not_left_out sheet some); left_out = λ e. five_longer sheet good run least (left_out_so sheet e) }
   where
     good : is_refusal (sheet_verdict sheet).refusal ≡ false
-    good = rw (early-read sheet none)
+    good = rw (early_read sheet none)
 
     least : says_sweep sheet ≡ false
-    least = early-least sheet none
+    least = early_least sheet none
 
     run : is_refusal (judge_of (sheet_run sheet)).refusal ≡ false
-    run = nothing-judged (sheet_run sheet) nothing
+    run = nothing_judged (sheet_run sheet) nothing
 
     fits : answer ≡ record { refusal = Accepted; place = 0; bytes = length (mended_text sheet); noted = length (changes_text sheet) }
-    fits = h.answer ∙ rw (taken sheet good run least out notes (mended-short sheet good run least) row list)
+    fits = h.answer ∙ rw (taken sheet good run least out notes (mended_short sheet good run least) row list)
 
     given : price_left_out sheet ≡ false → answer ≡ record { refusal = Accepted; place = 0; bytes = length sheet; noted = 0 }
     given there =
-        let same = same-sheet sheet good (fair_wants sheet run) least there in
-        let none : changes_text sheet ≡ [] = one-change sheet good (fair_wants sheet run) least ∙ rw there in
+        let same = same_sheet sheet good (fair_wants sheet run) least there in
+        let none : changes_text sheet ≡ [] = one_change sheet good (fair_wants sheet run) least ∙ rw there in
         fits ∙ rw (same, none)

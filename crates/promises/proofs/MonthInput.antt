@@ -118,15 +118,15 @@ module _ (input : List ℕ) where
         })
         (λ long.
         let cut_off : line_held input ≡ take 21 (before line_feed input) = rw e (take-append-le 21 (before line_feed input) (line_feed ∷ []) (omega arith)) in
-        let bad : is_number (before line_feed input) ≡ false = not_number (is_number (before line_feed input)) refl long in
+        let bad : is_number (before line_feed input) ≡ false = not_number_here (is_number (before line_feed input)) refl long in
         record {
           line = ap count_of cut_off ∙ no_count (take 21 (before line_feed input)) (none_in_front line_feed 21 (before line_feed input) (none_before line_feed input)) ∙ rw (e, bad) refl;
           rest = λ q. absurd (true≢false (sym q ∙ rw (e, bad) refl));
         })
       where
-        not_number : (b : Bool) → is_number (before line_feed input) ≡ b → (length (before line_feed input) ≤ 20 → ⊥) → is_number (before line_feed input) ≡ false
-        not_number true q long = absurd (long (number_short (before line_feed input) q))
-        not_number false q long = q
+        not_number_here : (b : Bool) → is_number (before line_feed input) ≡ b → (length (before line_feed input) ≤ 20 → ⊥) → is_number (before line_feed input) ≡ false
+        not_number_here true q long = absurd (long (number_short (before line_feed input) q))
+        not_number_here false q long = q
 
   pub shown : Shown input
   shown = go (has line_feed input) refl

@@ -99,8 +99,8 @@ module _ (files times : List ℕ) where
   abbrev nothing : Longest
   nothing = record { time = 0; file = 0 }
 
-  pub none_longer_here : (i : ℕ) → i < length files → get_or times i 0 ≤ (longest_of files times).time
-  none_longer_here i h = ⊎_elim (λ u. omega (arith, u.1 i h)) (λ (b : Beyond nothing files times (longest_of files times)). b.first.longest i h) (scan nothing files times)
+  pub none_longer : (i : ℕ) → i < length files → get_or times i 0 ≤ (longest_of files times).time
+  none_longer i h = ⊎_elim (λ u. omega (arith, u.1 i h)) (λ (b : Beyond nothing files times (longest_of files times)). b.first.longest i h) (scan nothing files times)
 
   pub first_longest : 0 < (longest_of files times).time → FirstOfLongest files times (longest_of files times).time (longest_of files times).file
   first_longest some =
@@ -179,7 +179,7 @@ each_shorter bound [] (r ∷ runs) o e = absurd o
 each_shorter bound (s ∷ sheets) [] o e = absurd o
 each_shorter bound (s ∷ sheets) (r ∷ runs) o e = (
   λ accepts list least want h.
-      omega (arith, none_longer_here (sheet_run s).numbers (priced_times (sheet_run s) list) want h, time_is s r list o.0 accepts least, accepted_time r accepts, e.0),
+      omega (arith, none_longer (sheet_run s).numbers (priced_times (sheet_run s) list) want h, time_is s r list o.0 accepts least, accepted_time r accepts, e.0),
   each_shorter bound sheets runs o.1 e.1,
 )
 

@@ -25,7 +25,7 @@ use Rattle.walk.specs.Detours.{legs_of}
 use Rattle.walk.specs.Price.{priced_times}
 use Rattle.walk.proofs.Joins.{served_same}
 use Rattle.least.proofs.Sweeps.{each_served}
-use Rattle.demands.proofs.Ends.{size, stop-of-want, entry_at}
+use Rattle.demands.proofs.Ends.{size, stop_of_want, entry_at}
 use Rattle.text_bytes.proofs.Bytes.{and_true_both}
 use Rattle.sheet_reader.specs.Sheet.{sheet_run, sheet_name}
 use Rattle.sheet_reader.specs.Reading.{sheet_verdict, rule_verdict}
@@ -35,7 +35,7 @@ use Rattle.answer_outcome.specs.declared.Longest.{Longest}
 use Rattle.answer_outcome.specs.Outcomes.{longer, longest_from, longest_of, refused_outcome, planned_outcome, OutcomeOf}
 use Rattle.answer_month.specs.Month.{empty_month, added_all}
 use Rattle.promises.specs.Months.{Every, Outcomes, of_accepted, in_all, longest_time, NoneRead, FirstLongest, NoReadsNoName, ReadsNameARun}
-use Rattle.promises.proofs.MonthTotals.{every-at, month_counts}
+use Rattle.promises.proofs.MonthTotals.{every_at, month_counts}
 
 first_counts : (counts : List ℕ) → total counts ≡ 0 → get_or counts 0 0 ≡ 0
 first_counts [] e = refl
@@ -121,7 +121,7 @@ no_reads_no_name sheets runs few o e =
     go : Every (λ r. longest_time r ≡ 0) runs → NoneRead runs (added_all empty_month runs) ⊎ FirstLongest runs (added_all empty_month runs) → NoneRead runs (added_all empty_month runs)
     go none (inl n) = n
     go none (inr l) =
-        let here = every-at (λ r. longest_time r ≡ 0) l.earlier l.run l.later (subst (Every (λ r. longest_time r ≡ 0)) l.stands none) in
+        let here = every_at (λ r. longest_time r ≡ 0) l.earlier l.run l.later (subst (Every (λ r. longest_time r ≡ 0)) l.stands none) in
         absurd (omega (arith, here, l.read))
 
 -- A leg that reads a stop runs right over all of it: what is read takes time.
@@ -170,13 +170,13 @@ module _ (run : Run) (ok : refuses (judge_of run) ≡ false) (list : List Detour
 
   first_served : served (legs_of (stops_of run) list) first ≡ true
   first_served =
-      let p = stop-of-want run (accepted_run run ok) 0 some in
+      let p = stop_of_want run (accepted_run run ok) 0 some in
       served_same (legs_of (stops_of run) list) first (stop_at (stops_of run) p.index) p.places
       ∙ each_served (stops_of run) run.head (accepted_sound run ok) list p.index p.within
 
   first_long : first.start < first.end
   first_long =
-      let p = stop-of-want run (accepted_run run ok) 0 some in
+      let p = stop_of_want run (accepted_run run ok) 0 some in
       omega (arith, p.places.start, p.places.end, (accepted_sound run ok).extends p.index p.within)
 
   first_time : get_or (priced_times run list) 0 0 ≡ time_of run.turn (head_at run.head) (legs_of (stops_of run) list) first

@@ -19,7 +19,7 @@ use Rattle.answer_month.specs.declared.Month.{Month}
 use Rattle.answer_month.specs.Month.{empty_month, added, added_all}
 use Rattle.answer_month.specs.Page.{PagePut}
 use Rattle.promises.specs.Months.{Every, Outcomes, how_many_runs, is_accepted_run, of_accepted, in_all, is_refused_by, longest_time, NoneRead, FirstLongest, MonthFigures, Reordered, same, behind_first, swapped, both, SameTotals, SameNames, OneLongest, OrderIsTie, OnePage, OneSheetMore}
-use Rattle.promises.proofs.MonthTotals.{every_map, every_append, every-at, many_append, none_longer, month_counts}
+use Rattle.promises.proofs.MonthTotals.{every_map, every_append, every_at, many_append, none_longer, month_counts}
 
 -- The outcomes of sheets are one list.
 outcomes_once : (sheets : List (List ℕ)) (runs runs' : List Outcome) → Outcomes sheets runs → Outcomes sheets runs' → runs ≡ runs'
@@ -92,7 +92,7 @@ no_longer {xs} {ys} p m m' f g = go f.longest
     go (inl n) = omega (arith, n.time)
     go (inr l) =
         let most = same_every (λ r. longest_time r ≤ m'.time) (back p) (none_longer ys m' g.longest) in
-        let here = every-at (λ r. longest_time r ≤ m'.time) l.earlier l.run l.later (subst (Every (λ r. longest_time r ≤ m'.time)) l.stands most) in
+        let here = every_at (λ r. longest_time r ≤ m'.time) l.earlier l.run l.later (subst (Every (λ r. longest_time r ≤ m'.time)) l.stands most) in
         omega (arith, l.time, here)
 
 -- Where a test holds for one alone, it holds for no other.
@@ -140,7 +140,7 @@ module _ {xs ys : List Outcome} (p : Reordered xs ys) (m m' : Month) (f : MonthF
       let few : how_many_runs test (l.earlier ++ (l.run ∷ l.later)) ≤ 1 = subst (λ x. how_many_runs test x ≤ 1) l.stands one in
       let each = alone test l.earlier l.run l.later (eq-eqb (longest_time l.run) m.time (sym l.time)) few in
       let there = same_every (λ r. test r ≡ true → r ≡ l.run) p (subst (Every (λ r. test r ≡ true → r ≡ l.run)) (sym l.stands) each) in
-      every-at (λ r. test r ≡ true → r ≡ l.run) l'.earlier l'.run l'.later (subst (Every (λ r. test r ≡ true → r ≡ l.run)) l'.stands there)
+      every_at (λ r. test r ≡ true → r ≡ l.run) l'.earlier l'.run l'.later (subst (Every (λ r. test r ≡ true → r ≡ l.run)) l'.stands there)
       (eq-eqb (longest_time l'.run) m.time (sym l'.time ∙ sym same_time))
 
   same_names : OneLongest xs m → SameNames m m'

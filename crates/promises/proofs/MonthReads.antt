@@ -64,8 +64,8 @@ few_sheets sheets line n e =
 
 -- A sheet of so many bytes: added, or cut short.
 module _ (m : Month) (input : List ℕ) (next : (o : Outcome) → m.sheets < 1000 → (rest : List ℕ) → Read (added m o) rest) where
-  sheet_read : (n : ℕ) → part_of m.sheets (line_held input) ≡ Sheet n → Read m input
-  sheet_read n e =
+  sheet_read_here : (n : ℕ) → part_of m.sheets (line_held input) ≡ Sheet n → Read m input
+  sheet_read_here n e =
       let there = length (take n (rest_of input)) in
       let o = outcome_for (kept_of n (rest_of input)) in
       by_cases (dec_lt there n)
@@ -77,7 +77,7 @@ module _ (m : Month) (input : List ℕ) (next : (o : Outcome) → m.sheets < 100
   part_read : (p : Part) → part_of m.sheets (line_held input) ≡ p → Read m input
   part_read End e = (m, (true, at_end e))
   part_read Bad e = (m, (false, no_part e))
-  part_read (Sheet n) e = sheet_read n e
+  part_read (Sheet n) e = sheet_read_here n e
 
 -- From a month that has room for so many sheets more.
 read_on : (k : ℕ) (m : Month) (input : List ℕ) → 1000 ≤ m.sheets + k → Read m input

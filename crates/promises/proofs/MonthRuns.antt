@@ -22,7 +22,7 @@ use Rattle.promises.specs.MonthRuns.{PlanComesTo, NoNumbers, SheetsComeTo}
 use Rattle.promises.specs.Answers.{RoomApplies}
 use Rattle.demands.specs.RefusalTable.{RunApplies}
 use Rattle.promises.proofs.DeskSteps.{not_accepted}
-use Rattle.promises.proofs.Answers.{run_few, room_own, sheet-accepts, room-finds}
+use Rattle.promises.proofs.Answers.{run_few, room_own, sheet_accepts, room_finds}
 use Rattle.promises.proofs.MonthLongest.{is}
 
 -- The outcome has the verdict's number.
@@ -32,7 +32,7 @@ kind_is sheet o p =
     ⊎_elim
     (λ (e : refuses (recall_verdict sheet) ≡ true). ap (λ (x : Outcome). x.refusal) (p.refused e))
     (λ (e : refuses (recall_verdict sheet) ≡ false).
-    ap (λ (x : Outcome). x.refusal) (p.planned e).says ∙ sym (ap (λ (v : Verdict). v.refusal) (sheet-accepts RunApplies run_few RoomApplies room_own sheet run_checks e)))
+    ap (λ (x : Outcome). x.refusal) (p.planned e).says ∙ sym (ap (λ (v : Verdict). v.refusal) (sheet_accepts RunApplies run_few RoomApplies room_own sheet run_checks e)))
     (true_or_false (refuses (recall_verdict sheet)))
 
 no_numbers : (sheet : List ℕ) (o : Outcome) → OutcomeOf sheet o → (o.refusal ≡ Accepted → ⊥) → NoNumbers o
@@ -54,7 +54,7 @@ pub sheets_come_to : SheetsComeTo
 sheets_come_to sheet o p =
     record {
       place = (recall_verdict sheet).place;
-      first = rw (kind_is sheet o p) (room-finds sheet);
+      first = rw (kind_is sheet o p) (room_finds sheet);
       refused = no_numbers sheet o p;
       planned = λ e list least. comes_to _ _ list o least (is sheet o list p e least);
     }

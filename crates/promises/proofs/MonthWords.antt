@@ -17,7 +17,7 @@ use Rattle.engine_stops.proofs.Halves.{list_of_halves}
 use Rattle.text_bytes.specs.Text.{is_empty}
 use Rattle.sheet_reader.specs.Sheet.{sheet_run, sheet_name}
 use Rattle.sheet_writer.proofs.RoundTrip.{SmallRow}
-use Rattle.sheet_lists.proofs.RoundTrip.{plan-small}
+use Rattle.sheet_lists.proofs.RoundTrip.{plan_small}
 use Rattle.answer_plan.specs.Recall.{run_checks, recall_verdict}
 use Rattle.answer_outcome.specs.declared.Outcome.{Outcome}
 use Rattle.answer_outcome.specs.declared.Longest.{Longest}
@@ -31,7 +31,7 @@ use Rattle.promises.specs.Lengths.{MonthsAreInWords}
 use Rattle.promises.proofs.Checks.{rows_accepted}
 use Rattle.promises.proofs.MonthTotals.{every_map, outcomes_small}
 use Rattle.promises.proofs.MonthInput.{part_by_part}
-use Rattle.promises.proofs.Lengths.{run_judges, run_checks_near, sheet-passes}
+use Rattle.promises.proofs.Lengths.{run_judges, run_checks_near, sheet_passes}
 
 -- The longest of some words is a word, and so is its file.
 longest_word : (most : Longest) (files times : List ℕ) → (most.time < 2 ^ 64) × (most.file < 2 ^ 64) → SmallRow files → SmallRow times
@@ -57,8 +57,8 @@ outcome_word sheet o p =
     (λ (e : refuses (recall_verdict sheet) ≡ false).
     let q = p.planned e in
     let run = sheet_run sheet in
-    let good = sheet-passes run_checks run_judges run_checks_near sheet e in
-    let small = plan-small run (map (λ d. d.from) q.list) (map (λ d. d.to) q.list) good.1 (rows_accepted (sheet_name sheet) run q.list q.least) in
+    let good = sheet_passes run_checks run_judges run_checks_near sheet e in
+    let small = plan_small run (map (λ d. d.from) q.list) (map (λ d. d.to) q.list) good.1 (rows_accepted (sheet_name sheet) run q.list q.least) in
     let times : SmallRow (priced_times run q.list) = subst (λ l. SmallRow (priced_times run l)) (list_of_halves q.list) small.times in
     subst TimeIsWord (sym q.says) (longest_word (record { time = 0; file = 0 }) run.numbers (priced_times run q.list) (omega arith, omega arith) small.numbers times))
     (true_or_false (refuses (recall_verdict sheet)))

@@ -33,12 +33,12 @@ use Rattle.sheet_writer.specs.RefusalLines.{refusal_text}
 use Rattle.sheet_loose.specs.Loose.{loose_files, loose_wants_text, loose_want_text, loose_wants, loose_end, wants_said, price_left_out, first_bad_loose_top, first_bad_loose_below, first_bad_loose, wanted_files, wanted_counts}
 use Rattle.sheet_loose.specs.Reading.{loose_verdict}
 use Rattle.sheet_loose.proofs.Wants.{wants_few}
-use Rattle.answer_plan.proofs.Planned.{handed-bytes, handed-row}
+use Rattle.answer_plan.proofs.Planned.{handed_bytes, handed_row}
 use Rattle.answer_rewrite.specs.Rewriting.{rewritten, rewrite_verdict}
 use Rattle.answer_mend.specs.declared.wants.Fate.{Fate}
 use Rattle.answer_mend.specs.Wants.{reads_in_all, fate_of}
 use Rattle.answer_mend.specs.Mending.{sheet_remaining, mended_text, change_line, change_if, fate_line, fate_lines, changes_text, wants_verdicts, texts_verdicts, mend_verdict}
-use Rattle.answer_mend.proofs.Texts.{few-files}
+use Rattle.answer_mend.proofs.Texts.{few_files}
 use Rattle.answer_month.specs.declared.Month.{Month}
 use Rattle.answer_month.specs.Page.{one_if, kinds_in, refusal_line, refusal_lines, month_top, mean_of, sums_text, longest_text, month_tape, month_end, page_text}
 use Rattle.demands.specs.RefusalTable.{FirstThatApplies, none, here, later, SomeApplies}
@@ -47,7 +47,7 @@ use Rattle.promises.specs.Lengths.{InWords, month_row, MonthIsWhole, sheet_row, 
 use Rattle.promises.specs.Mender.{SheetApplies, sheet_order, TextsApply, long_text, short_row, texts_order}
 use Rattle.promises.proofs.Mends.{mended_rows}
 use Rattle.promises.proofs.Mender.{mender_refuses, nothing_applies, says}
-use Rattle.promises.proofs.Lengths.{some_begun, takes_all, first_few, unless_few, at_near, sheet-near, line_length, number_length, refusal_short, refusal_begins}
+use Rattle.promises.proofs.Lengths.{some_begun, takes_all, first_few, unless_few, at_near, sheet_near, line_length, number_length, refusal_short, refusal_begins}
 
 -- A line with two numbers.
 pair_length : (key : List ℕ) (a b : ℕ) → a < 2 ^ 64 → b < 2 ^ 64 → length (pair_line key a b) ≤ length key + 42
@@ -179,8 +179,8 @@ refusal_is_whole v l =
     takes_all refusal_row
     (λ row n row' a. record {
       text = refusal_text v;
-      bytes = a.1.1 ∙ handed-bytes (refusal_text v) row a.0 row' a.1.0;
-      left = handed-row (refusal_text v) row a.0 row' a.1.0;
+      bytes = a.1.1 ∙ handed_bytes (refusal_text v) row a.0 row' a.1.0;
+      left = handed_row (refusal_text v) row a.0 row' a.1.0;
       short = omega (arith, refusal_short v l);
       some = some_begun (refusal_text v) 113 (refusal_begins v);
     })
@@ -217,15 +217,15 @@ fates_length above files counts (suc i) l =
     )
 
 module _ (sheet : List ℕ) (short : length sheet ≤ 16384) where
-  few_wants : length (wanted_files sheet) ≤ 2730
+  few_wants_here : length (wanted_files sheet) ≤ 2730
   unfolding wanted_files
-  few_wants = omega (arith, short, wants_few sheet, length_each (λ i. first_in want_key (line_after i (loose_want_text sheet))) (loose_wants sheet))
+  few_wants_here = omega (arith, short, wants_few sheet, length_each (λ i. first_in want_key (line_after i (loose_want_text sheet))) (loose_wants sheet))
 
   changes_few : length (changes_text sheet) ≤ changes_row
   unfolding changes_text
   changes_few =
-      let files = few-files sheet in
-      let wants = few_wants in
+      let files = few_files sheet in
+      let wants = few_wants_here in
       let turn = change_if (price_left_out sheet) 3 (bytes "turn") in
       let rule = change_if (says_sweep sheet) 4 (bytes "rule") in
       let table = change_if (not (eqb (sheet_files sheet) (loose_files sheet))) 5 (bytes "files") in
@@ -247,7 +247,7 @@ module _ (sheet : List ℕ) (short : length sheet ≤ 16384) where
   loose_few : first_bad_loose sheet ≤ place_most
   unfolding first_bad_loose first_bad_loose_top first_bad_loose_below
   loose_few =
-      let files = few-files sheet in
+      let files = few_files sheet in
       let wants = wants_few sheet in
       first_few place_most (first_bad_loose_top sheet ∷ first_bad_loose_below sheet ∷ []) (
         first_few place_most
@@ -351,7 +351,7 @@ module _ (sheet row : List ℕ) (wide : sheet_row ≤ length row) where
   not_short e = kinds (ltb longest_sheet (length sheet)) (first_bad_line sheet) long (ap (λ v. number_of v.refusal) (sym row_passes) ∙ ap number_of e)
 
   rewrite_near : (rewrite_verdict sheet row).place ≤ place_most
-  rewrite_near = rw row_passes (first_near (sheet_verdict sheet ∷ refuse_if long LongSheet ∷ []) (sheet-near sheet, λ a. (if_near long LongSheet, λ b. tt)))
+  rewrite_near = rw row_passes (first_near (sheet_verdict sheet ∷ refuse_if long LongSheet ∷ []) (sheet_near sheet, λ a. (if_near long LongSheet, λ b. tt)))
 
 pub rewrite_is_whole : RewriteIsWhole
 unfolding rewrite_verdict written_answer written_row

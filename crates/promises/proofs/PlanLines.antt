@@ -20,8 +20,8 @@ use Rattle.sheet_writer.specs.PlanSheet.{plan_top, plan_lines, plan_text}
 use Rattle.sheet_writer.specs.AnyHead.{plan_any_text}
 use Rattle.answer_plan.specs.Recall.{PlanOf}
 use Rattle.answer_any.specs.AnyRun.{PlanAnyOf}
-use Rattle.demands.proofs.AnyJudged.{judged-nothing-any}
-use Rattle.demands.proofs.AnyLegs.{legs-made}
+use Rattle.demands.proofs.AnyJudged.{judged_nothing_any}
+use Rattle.demands.proofs.AnyLegs.{legs_made}
 use Rattle.demands.proofs.AnyHead.{legs_are_one, least_any_means}
 use Rattle.demands.proofs.AnySums.{least_walk_is_least}
 use Rattle.promises.specs.Texts.{pairs_on, triples_on}
@@ -76,18 +76,18 @@ plan_printed name r text p = record { list = p.list; least = p.least; whole = p.
 module _ (name : List ℕ) (r : Run) (judged : refuses (judge_any_of r) ≡ false) (text : List ℕ) where
   pub plan_any_printed : PlanAnyOf name r text → PlanAnyPrinted name r text
   plan_any_printed p =
-      let made = legs-made r (accepted_any r judged) p.list p.least.formed in
+      let made = legs_made r (accepted_any r judged) p.list p.least.formed in
       record {
         list = p.list;
         legs = run_legs r p.list;
         made = made;
-        least = least_any_means r (judged-nothing-any r judged) p.list p.least (run_legs r p.list) made;
+        least = least_any_means r (judged_nothing_any r judged) p.list p.least (run_legs r p.list) made;
         whole = p.says ∙ any_text_is name r p.list;
       }
 
   pub plan_any_back : PlanAnyPrinted name r text → PlanAnyOf name r text
   plan_any_back p =
-      let nothing = judged-nothing-any r judged in
+      let nothing = judged_nothing_any r judged in
       record {
         list = p.list;
         least = least_walk_is_least r nothing p.list p.legs p.made p.least;

@@ -12,7 +12,7 @@ use Rattle.refusals.proofs.Verdicts.{refuses}
 use Rattle.refusals.specs.Refusals.{first_where}
 use Rattle.runs.specs.Run.{most_wants}
 use Rattle.runs.specs.Judging.{judge_of, number_before}
-use Rattle.runs.proofs.Search.{first-zero, or_false_both}
+use Rattle.runs.proofs.Search.{first_zero, or_false_both}
 use Rattle.runs.proofs.Judged.{GoodWants, GoodRun, accepted_run}
 use Rattle.text_bytes.specs.Text.{bytes, line_feed, comma, has, before, behind, is_empty, is_number, starts_with, is_text, value_of, decimal}
 use Rattle.text_bytes.proofs.Bytes.{and_true_both}
@@ -21,21 +21,21 @@ use Rattle.text_lines.specs.Lines.{line_of, after_lines, line_after, value_text,
 use Rattle.sheet_reader.specs.Lines.{turn_key, rule_key, least_text, sweep_text, files_key, file_key, wants_key, want_key, is_count_line, is_turn_line, turn_with, empty_turn, is_rule_line, names_sweep}
 use Rattle.sheet_reader.specs.Sheet.{longest_sheet, most_sheet_files, sheet_turn, sheet_turn_with, says_sweep, sheet_files, file_text, wants_text, sheet_wants, want_text, end_text, unless, shifted, first_some, first_bad_top, first_bad_below, first_bad_line, sheet_run}
 use Rattle.sheet_reader.specs.Reading.{sheet_verdict}
-use Rattle.sheet_reader.proofs.Good.{GoodLines, good-lines, no-bad-line, few-files, few-wants, line-split}
+use Rattle.sheet_reader.proofs.Good.{GoodLines, good_lines, no_bad_line, few_files, few_wants, line_split}
 use Rattle.sheet_reader.proofs.Rows.{length_each}
 use Rattle.text_pages.specs.Printing.{line, number_line, pair_text, pair_line, pair_lines}
 use Rattle.sheet_loose.specs.Loose.{loose_files, loose_wants_text, loose_want_text, loose_wants, wants_said, price_left_out, wanted_files, wanted_counts}
 use Rattle.sheet_loose.proofs.Ends.{after_ends}
 use Rattle.answer_mend.specs.Wants.{remaining, fate_of}
 use Rattle.answer_mend.specs.Mending.{first_lines, sheet_remaining, sheet_reads, mended_text, change_if, changes_text, fate_lines}
-use Rattle.promises.proofs.Gathered.{Rising, Clean, clean-remaining, clean-each, clean-stays}
+use Rattle.promises.proofs.Gathered.{Rising, Clean, clean_remaining, clean_each, clean_stays}
 use Rattle.promises.proofs.Again.{come_so_many, not_file, not_want, regroup, none_more, line_good, remaining_once, reads_once, fates_none}
 use Rattle.demands.proofs.Canonical.{number_text}
 
 -- A text is its first line, with its LF, and what stands behind it.
 pub text_line : (k : ℕ) (key value text : List ℕ) → starts_with (k ∷ key) (line_of text) ≡ true → line_of text ≡ (k ∷ key) ++ value → text ≡ line (k ∷ key) value ++ behind line_feed text
 text_line k key value text begun is =
-    line-split k key text begun ∙ ap (λ t. t ++ (line_feed ∷ behind line_feed text)) is ∙ sym (append_assoc ((k ∷ key) ++ value) (line_feed ∷ []) (behind line_feed text))
+    line_split k key text begun ∙ ap (λ t. t ++ (line_feed ∷ behind line_feed text)) is ∙ sym (append_assoc ((k ∷ key) ++ value) (line_feed ∷ []) (behind line_feed text))
 
 -- What stands on a line, from its numbers.
 pub number_line_lem : (key text : List ℕ) → is_number_line key text ≡ true → text ≡ key ++ decimal (number_behind key text)
@@ -168,7 +168,7 @@ fair_wants sheet fair =
 
 module _ (sheet : List ℕ) (good : refuses (sheet_verdict sheet) ≡ false) (fair : Clean (sheet_run sheet).numbers (sheet_run sheet).counts) (least : says_sweep sheet ≡ false) where
   pub g : GoodLines sheet
-  g = good-lines sheet good
+  g = good_lines sheet good
 
   abbrev wants_line : ℕ
   wants_line = unless (is_count_line wants_key most_wants (line_of (wants_text sheet))) (sheet_files sheet + 6)
@@ -185,7 +185,7 @@ module _ (sheet : List ℕ) (good : refuses (sheet_verdict sheet) ≡ false) (fa
   pub below : (bad-files ≡ 0) × ((bad-wants ≡ 0) × (end_text sheet ≡ []))
   unfolding first_bad_line first_bad_below
   below =
-      let lower = (none_more (first_bad_below sheet) [] (none_more (first_bad_top sheet) (first_bad_below sheet ∷ []) (no-bad-line sheet good)).1).0 in
+      let lower = (none_more (first_bad_below sheet) [] (none_more (first_bad_top sheet) (first_bad_below sheet ∷ []) (no_bad_line sheet good)).1).0 in
       let a = none_more (shifted 5 bad-files) (wants_line ∷ shifted (sheet_files sheet + 6) bad-wants ∷ end_on) lower in
       let b = none_more wants_line (shifted (sheet_files sheet + 6) bad-wants ∷ end_on) a.1 in
       let c = none_more (shifted (sheet_files sheet + 6) bad-wants) end_on b.1 in
@@ -205,8 +205,8 @@ module _ (sheet : List ℕ) (good : refuses (sheet_verdict sheet) ≡ false) (fa
   pub files_same : loose_files sheet ≡ sheet_files sheet
   unfolding loose_files first_bad_of wants_text
   files_same =
-      come_so_many (is_triple_line file_key) most_sheet_files (sheet_files sheet) (file_text sheet) (few-files sheet good)
-      (λ i l. not-false (is_triple_line file_key (line_after i (file_text sheet))) (first-zero (λ j. not (is_triple_line file_key (line_after j (file_text sheet)))) (sheet_files sheet) below.0 i l))
+      come_so_many (is_triple_line file_key) most_sheet_files (sheet_files sheet) (file_text sheet) (few_files sheet good)
+      (λ i l. not-false (is_triple_line file_key (line_after i (file_text sheet))) (first_zero (λ j. not (is_triple_line file_key (line_after j (file_text sheet)))) (sheet_files sheet) below.0 i l))
       (λ m. ap (is_triple_line file_key) (number_line_lem wants_key (line_of (wants_text sheet)) wants_number) ∙ not_file (decimal (number_behind wants_key (line_of (wants_text sheet)))))
 
   pub tail_same : loose_wants_text sheet ≡ wants_text sheet
@@ -219,13 +219,13 @@ module _ (sheet : List ℕ) (good : refuses (sheet_verdict sheet) ≡ false) (fa
 
   want_good_here : (i : ℕ) → i < sheet_wants sheet → is_pair_line want_key (line_after i (want_text sheet)) ≡ true
   unfolding first_bad_of
-  want_good_here i l = not-false (is_pair_line want_key (line_after i (want_text sheet))) (first-zero (λ j. not (is_pair_line want_key (line_after j (want_text sheet)))) (sheet_wants sheet) below.1.0 i l)
+  want_good_here i l = not-false (is_pair_line want_key (line_after i (want_text sheet))) (first_zero (λ j. not (is_pair_line want_key (line_after j (want_text sheet)))) (sheet_wants sheet) below.1.0 i l)
 
   pub wants_same : loose_wants sheet ≡ sheet_wants sheet
   unfolding loose_wants end_text
   wants_same =
       ap (λ t. lines_before longest_sheet (first_bad_of (is_pair_line want_key) longest_sheet t)) body_same
-      ∙ come_so_many (is_pair_line want_key) longest_sheet (sheet_wants sheet) (want_text sheet) (omega (arith, few-wants sheet good)) want_good_here (λ m. ap (λ t. is_pair_line want_key (line_of t)) below.1.1 ∙ not_want)
+      ∙ come_so_many (is_pair_line want_key) longest_sheet (sheet_wants sheet) (want_text sheet) (omega (arith, few_wants sheet good)) want_good_here (λ m. ap (λ t. is_pair_line want_key (line_of t)) below.1.1 ∙ not_want)
 
   pub named : wanted_files sheet ≡ (sheet_run sheet).numbers
   unfolding wanted_files sheet_run
@@ -240,10 +240,10 @@ module _ (sheet : List ℕ) (good : refuses (sheet_verdict sheet) ≡ false) (fa
   clean = rw (named, counted) fair
 
   pub remain : sheet_remaining sheet ≡ wanted_files sheet
-  remain = remaining_once sheet (wanted_files sheet) (wanted_counts sheet) refl refl (clean-remaining (wanted_files sheet) (wanted_counts sheet) clean)
+  remain = remaining_once sheet (wanted_files sheet) (wanted_counts sheet) refl refl (clean_remaining (wanted_files sheet) (wanted_counts sheet) clean)
 
   pub ask : sheet_reads sheet ≡ wanted_counts sheet
-  ask = reads_once sheet (wanted_files sheet) (wanted_counts sheet) refl refl remain (clean-each (wanted_files sheet) (wanted_counts sheet) clean)
+  ask = reads_once sheet (wanted_files sheet) (wanted_counts sheet) refl refl remain (clean_each (wanted_files sheet) (wanted_counts sheet) clean)
 
   long : length (sheet_remaining sheet) ≡ sheet_wants sheet
   unfolding wanted_files
@@ -312,8 +312,8 @@ module _ (sheet : List ℕ) (good : refuses (sheet_verdict sheet) ≡ false) (fa
       (fifth ∙ ap (λ t. number_line files_key (loose_files sheet) ++ t)
       (table ∙ ap (λ t. first_lines (loose_files sheet) (file_text sheet) ++ t) (tail ∙ ap (λ t. number_line wants_key (length (sheet_remaining sheet)) ++ t) body)))
 
-  pub old_sheet_here : sheet ≡ first_lines 2 sheet ++ (line turn_key (value_text turn_key (line_after 2 sheet)) ++ after_lines 3 sheet)
-  old_sheet_here = first_and_rest 2 sheet ∙ ap (λ t. first_lines 2 sheet ++ t) third_old
+  pub old_sheet_lem : sheet ≡ first_lines 2 sheet ++ (line turn_key (value_text turn_key (line_after 2 sheet)) ++ after_lines 3 sheet)
+  old_sheet_lem = first_and_rest 2 sheet ∙ ap (λ t. first_lines 2 sheet ++ t) third_old
 
   pub new_sheet : mended_text sheet ≡ first_lines 2 sheet ++ (number_line turn_key (sheet_turn sheet) ++ after_lines 3 sheet)
   unfolding mended_text
@@ -327,11 +327,11 @@ module _ (sheet : List ℕ) (good : refuses (sheet_verdict sheet) ≡ false) (fa
   price_text_here given = price_value (line_after 2 sheet) g.turn given
 
   pub same_sheet : price_left_out sheet ≡ false → mended_text sheet ≡ sheet
-  same_sheet given = new_sheet ∙ ap (λ t. first_lines 2 sheet ++ (line turn_key t ++ after_lines 3 sheet)) (price_text_here given) ∙ sym old_sheet_here
+  same_sheet given = new_sheet ∙ ap (λ t. first_lines 2 sheet ++ (line turn_key t ++ after_lines 3 sheet)) (price_text_here given) ∙ sym old_sheet_lem
 
   pub one_change : changes_text sheet ≡ change_if (price_left_out sheet) 3 (bytes "turn")
   unfolding changes_text wants_said
   one_change =
-      let fates = fates_none (loose_files sheet + 6) (wanted_files sheet) (wanted_counts sheet) (length (wanted_files sheet)) (clean-stays (wanted_files sheet) (wanted_counts sheet) clean) in
+      let fates = fates_none (loose_files sheet + 6) (wanted_files sheet) (wanted_counts sheet) (length (wanted_files sheet)) (clean_stays (wanted_files sheet) (wanted_counts sheet) clean) in
       rw (least, eq-eqb (sheet_files sheet) (loose_files sheet) (sym files_same), eq-eqb (number_behind wants_key (line_of (loose_wants_text sheet))) (length (sheet_remaining sheet)) said, fates)
       (no_more (change_if (price_left_out sheet) 3 (bytes "turn")))

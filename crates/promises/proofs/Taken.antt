@@ -17,7 +17,7 @@ use Rattle.text_lines.specs.Lines.{line_of, after_lines, line_after, value_text,
 use Rattle.sheet_reader.specs.Lines.{turn_key, wants_key, turn_with, empty_turn}
 use Rattle.sheet_reader.specs.Sheet.{longest_sheet, sheet_turn, sheet_turn_with, says_sweep, end_text, sheet_run}
 use Rattle.sheet_reader.specs.Reading.{sheet_verdict}
-use Rattle.sheet_reader.proofs.Good.{short-sheet}
+use Rattle.sheet_reader.proofs.Good.{short_sheet}
 use Rattle.text_pages.specs.Printing.{line}
 use Rattle.sheet_loose.specs.Loose.{loose_wants_text, loose_end, price_left_out, first_bad_loose_top, first_bad_loose_below, first_bad_loose, wanted_counts}
 use Rattle.sheet_loose.specs.Reading.{loose_verdict}
@@ -25,7 +25,7 @@ use Rattle.answer_mend.specs.Wants.{sum_below, reads_in_all, asked_of, reads_of_
 use Rattle.least.specs.Wants.{reads_of_file}
 use Rattle.answer_mend.specs.Mending.{first_lines, sheet_remaining, mended_text, changes_text, mend_verdict}
 use Rattle.demands.proofs.Canonical.{number_text}
-use Rattle.promises.proofs.Same.{fair_wants, empty_is, g, below, wants-number, files-number, tail-same, body_same, wants-same, named, counted, remain, old-sheet, new-sheet}
+use Rattle.promises.proofs.Same.{fair_wants, empty_is, g, below, wants_number, files_number, tail_same, body_same, wants_same, named, counted, remain, old_sheet_lem, new_sheet}
 
 -- The reads of all lines are the total of their counts.
 sum_front : (value : ℕ → ℕ) (n : ℕ) → sum_below value (suc n) ≡ value 0 + sum_below (λ i. value (suc i)) n
@@ -64,9 +64,9 @@ module _ (sheet : List ℕ) (good : refuses (sheet_verdict sheet) ≡ false) (fa
   unfolding first_bad_loose first_bad_loose_top first_bad_loose_below loose_end end_text
   described =
       let lines = g sheet good (fair_wants sheet fair) least in
-      let wants : is_number_line wants_key (line_of (loose_wants_text sheet)) ≡ true = ap (λ t. is_number_line wants_key (line_of t)) (tail-same sheet good (fair_wants sheet fair) least) ∙ wants-number sheet good (fair_wants sheet fair) least in
-      let end : loose_end sheet ≡ [] = rw (wants-same sheet good (fair_wants sheet fair) least, body_same sheet good (fair_wants sheet fair) least) (below sheet good (fair_wants sheet fair) least).1.1 in
-      rw (lines.tape, lines.head, lines.turn, lines.rule, files-number sheet good (fair_wants sheet fair) least, wants, end)
+      let wants : is_number_line wants_key (line_of (loose_wants_text sheet)) ≡ true = ap (λ t. is_number_line wants_key (line_of t)) (tail_same sheet good (fair_wants sheet fair) least) ∙ wants_number sheet good (fair_wants sheet fair) least in
+      let end : loose_end sheet ≡ [] = rw (wants_same sheet good (fair_wants sheet fair) least, body_same sheet good (fair_wants sheet fair) least) (below sheet good (fair_wants sheet fair) least).1.1 in
+      rw (lines.tape, lines.head, lines.turn, lines.rule, files_number sheet good (fair_wants sheet fair) least, wants, end)
 
   few : length (sheet_remaining sheet) ≤ most_wants
   few = rw (remain sheet good (fair_wants sheet fair) least, named sheet good (fair_wants sheet fair) least) (accepted_run (sheet_run sheet) fair).wants.few
@@ -78,7 +78,7 @@ module _ (sheet : List ℕ) (good : refuses (sheet_verdict sheet) ≡ false) (fa
   unfolding mend_verdict loose_verdict
   taken out notes fits row list =
       rw (
-        le-ltb longest_sheet (length sheet) (short-sheet sheet good),
+        le-ltb longest_sheet (length sheet) (short_sheet sheet good),
         described,
         le-ltb most_wants (length (sheet_remaining sheet)) few,
         le-ltb most_reads (reads_in_all (wanted_counts sheet)) reads,
@@ -92,6 +92,6 @@ module _ (sheet : List ℕ) (good : refuses (sheet_verdict sheet) ≡ false) (fa
   five_longer out =
       let none = empty_is (value_text turn_key (line_after 2 sheet)) out in
       let price : decimal (sheet_turn sheet) ≡ bytes "12000" = rw out empty_price_lem in
-      let new = ap length (new-sheet sheet good (fair_wants sheet fair) least) ∙ third_long (first_lines 2 sheet) (decimal (sheet_turn sheet)) (after_lines 3 sheet) in
-      let old = ap length (old-sheet sheet good (fair_wants sheet fair) least) ∙ third_long (first_lines 2 sheet) (value_text turn_key (line_after 2 sheet)) (after_lines 3 sheet) in
+      let new = ap length (new_sheet sheet good (fair_wants sheet fair) least) ∙ third_long (first_lines 2 sheet) (decimal (sheet_turn sheet)) (after_lines 3 sheet) in
+      let old = ap length (old_sheet_lem sheet good (fair_wants sheet fair) least) ∙ third_long (first_lines 2 sheet) (value_text turn_key (line_after 2 sheet)) (after_lines 3 sheet) in
       omega (arith, new, old, ap length price, ap length none)

@@ -28,11 +28,11 @@ use Rattle.answer_ltfs.specs.TapeTable.{in_several, is_empty_file, lies_elsewher
 use Rattle.answer_ltfs.specs.Input.{most_tape_input, label_key, index_key, is_counted, counted_text, after_counted, is_framed, framed_label, framed_index, bad_frame, tape_input_verdict, answer_text, left_out_text, report_text}
 use Rattle.answer_ltfs.specs.Framed.{input_text}
 use Rattle.answer_ltfs.proofs.Apart.{input_taken_apart}
-use Rattle.answer_ltfs.proofs.Promise.{sheet-within}
+use Rattle.answer_ltfs.proofs.Promise.{sheet_within}
 use Rattle.demands.specs.Lines.{Stands, Name, Number}
 use Rattle.demands.specs.Tapes.{TapeAnswers}
 use Rattle.demands.proofs.Checks.{first_of_joined}
-use Rattle.demands.proofs.Lines.{tells-tape, tells-number, number_flat, line_read}
+use Rattle.demands.proofs.Lines.{tells_tape, tells_number, number_flat, line_read}
 use Rattle.demands.proofs.Tapes.{demand1_tape}
 use Rattle.promises.specs.Lengths.{sheet_row}
 use Rattle.promises.specs.TapeInput.{left_out_lines, TapePrinted, TapeByItsTable, OtherTapesRefused}
@@ -69,13 +69,13 @@ module _ (input : List ℕ) where
   named : Stands tape_key Name input 0 → is_tape_line (line_of input) ≡ true
   unfolding after_lines
   named s =
-      ⊎_elim (λ (e : is_tape_line (line_of input) ≡ true). e) (λ (e : is_tape_line (line_of input) ≡ false). absurd ((tells-tape input 0).when_false e s))
+      ⊎_elim (λ (e : is_tape_line (line_of input) ≡ true). e) (λ (e : is_tape_line (line_of input) ≡ false). absurd ((tells_tape input 0).when_false e s))
       (true_or_false (is_tape_line (line_of input)))
 
   not_named : (Stands tape_key Name input 0 → ⊥) → is_tape_line (line_of input) ≡ false
   unfolding after_lines
   not_named n =
-      ⊎_elim (λ (e : is_tape_line (line_of input) ≡ true). absurd (n ((tells-tape input 0).when_true e))) (λ (e : is_tape_line (line_of input) ≡ false). e)
+      ⊎_elim (λ (e : is_tape_line (line_of input) ≡ true). absurd (n ((tells_tape input 0).when_true e))) (λ (e : is_tape_line (line_of input) ≡ false). e)
       (true_or_false (is_tape_line (line_of input)))
 
   long_frame : 524288 < length input → bad_frame input (behind line_feed input) ≡ true
@@ -89,7 +89,7 @@ module _ (key : List ℕ) (long : 0 < length key) (plain : has line_feed key ≡
 
   stands : Stands key Number input 0
   unfolding after_lines
-  stands = (tells-number input 0 key long plain).when_true both.0
+  stands = (tells_number input 0 key long plain).when_true both.0
 
   abbrev count : ℕ
   count = number_behind key (line_of input)
@@ -235,7 +235,7 @@ module _ (name label index out : List ℕ) (n : is_name name ≡ true) (few : le
     asked_so : refuses v ≡ false → TapePrinted name label index out printed noted
     unfolding ltfs_report row_verdict answer_text report_text left_out_text
     asked_so e =
-        let fits = sheet-within name label index e in
+        let fits = sheet_within name label index e in
         let row : row_verdict (ltfs_sheet name label index) out ≡ accepted = rw (le-ltb (length out) (length (ltfs_sheet name label index)) (omega (arith, fits))) in
         let same : w ≡ accepted = sym joined_is ∙ first_passes v (row_verdict (ltfs_sheet name label index) out ∷ []) e ∙ rw row in
         let t = input_taken_apart name label index n (omega (arith, parts_few.0)) (omega (arith, parts_few.1)) in

@@ -1,7 +1,7 @@
 -- The texts of `ltfs` are no longer than the rows of its program: a sheet is within its limit, and an index has fewer files than bytes.
 use Prim.Native.Nat.{ℕ, ◌+◌, ◌≤◌, ◌<◌}
 use mathlib.Core.Path.{◌≡◌, refl, ap, ◌∙◌}
-use mathlib.Core.Bool.{Bool, true, false, not, ◌||◌, or_true}
+use mathlib.Core.Bool.{Bool, true, false, not, ◌||◌, or-true}
 use mathlib.Core.Logic.{◌⊎◌, inl, inr}
 use mathlib.Core.List.{List, [], ◌∷◌, ◌++◌}
 use native.Mathlib.Omega.{arith}
@@ -28,7 +28,7 @@ use Rattle.tape_files.specs.Index.{some, Level, Role, holds, file, other, role_o
 use Rattle.answer_ltfs.specs.declared.Told.{Told}
 use Rattle.answer_ltfs.specs.TapeTable.{in_several, is_empty_file, lies_elsewhere, how_many, are_far, some_overlap, ranges_in, tape_table, are_good_texts, ltfs_sheet, tape_verdict}
 use Rattle.answer_ltfs.specs.Input.{most_tape_input, label_key, index_key, empty_key, other_key, is_framed, counted_text, after_counted, input_name, input_label, input_index, bad_frame, tape_input_verdict, answer_text, left_out_text, report_text, rows_short, InputAnswered}
-use Rattle.answer_ltfs.proofs.Promise.{sheet-within}
+use Rattle.answer_ltfs.proofs.Promise.{sheet_within}
 use Rattle.promises.specs.Lengths.{sheet_row, report_row, TapeIsWhole, BothOrNeither, TapeInAnyRows, TapeKeepsBehind}
 use Rattle.promises.proofs.Lengths.{some_begun, number_length, refusal_short, refusal_begins}
 
@@ -170,7 +170,7 @@ module _ (input : List ℕ) where
       go : (b : Bool) → refuses v ≡ b → (length (answer_text input) ≤ sheet_row) × (0 < length (answer_text input))
       go true e = rw e (omega (arith, refusal_short v (omega (arith, input_near))), some_begun (refusal_text v) 113 (refusal_begins v))
       go false e =
-          rw e (sheet-within (input_name input) (input_label input) (input_index input) (all_accept checks e).1.1.0, some_begun (ltfs_sheet (input_name input) (input_label input) (input_index input)) 115 sheet_begins)
+          rw e (sheet_within (input_name input) (input_label input) (input_index input) (all_accept checks e).1.1.0, some_begun (ltfs_sheet (input_name input) (input_label input) (input_index input)) 115 sheet_begins)
 
   input_few : refuses v ≡ false → length input ≤ most_tape_input
   unfolding tape_input_verdict
@@ -204,7 +204,7 @@ module _ (input out notes : List ℕ) (r : Told) (out' notes' : List ℕ) (h : I
 
   one_short : (length out < length (answer_text input)) ⊎ (length notes < length (report_text input)) → rows_short (answer_text input) (report_text input) out notes ≡ true
   one_short (inl l) = rw (lt-ltb (length out) (length (answer_text input)) l)
-  one_short (inr l) = rw (lt-ltb (length notes) (length (report_text input)) l) (or_true (ltb (length out) (length (answer_text input))))
+  one_short (inr l) = rw (lt-ltb (length notes) (length (report_text input)) l) (or-true (ltb (length out) (length (answer_text input))))
 
   both_or_neither : BothOrNeither (answer_text input) (report_text input) out notes r out' notes'
   both_or_neither =

@@ -39,12 +39,12 @@ use Rattle.demands.specs.RefusalTable.{FirstBad, SomeApplies}
 use Rattle.demands.specs.AnyHead.{RunAppliesAny, ListIsBadAny}
 use Rattle.demands.specs.Lines.{LineIsBad, lines_due, Ruled}
 use Rattle.demands.proofs.Tests.{tells_below}
-use Rattle.demands.proofs.Checks.{decides_if, decides_there, decides_reworded, Finds, finds-none, finds-first, first_of_joined, AllRefuse, refused-iff}
-use Rattle.demands.proofs.Counted.{has-stops, stops-one}
-use Rattle.demands.proofs.AnyLifted.{stops-down, stops-up}
-use Rattle.demands.proofs.AnyJudged.{any_small, run-any-finds, decides-list-any}
-use Rattle.demands.proofs.Lines.{tells-sweep}
-use Rattle.demands.proofs.FirstLine.{decides-line}
+use Rattle.demands.proofs.Checks.{decides_if, decides_there, decides_reworded, Finds, finds_none, finds_first, first_of_joined, AllRefuse, refused_iff}
+use Rattle.demands.proofs.Counted.{has_stops, stops_one}
+use Rattle.demands.proofs.AnyLifted.{stops_down, stops_up}
+use Rattle.demands.proofs.AnyJudged.{any_small, run_any_finds, decides_list_any}
+use Rattle.demands.proofs.Lines.{tells_sweep}
+use Rattle.demands.proofs.FirstLine.{decides_line}
 use Rattle.promises.specs.Answers.{WordsApply, short_room, two_lines}
 use Rattle.promises.specs.Rooms.{RoomOfPlan}
 use Rattle.promises.specs.Lengths.{check_row}
@@ -79,12 +79,12 @@ module _ (sheet : List ℕ) where
       let rule = refuse_at (cond (says_sweep sheet) 4 0) RetiredRule in
       rw
       (first_of_joined (long ∷ line ∷ []) (rule ∷ []))
-      (finds-first (EarlyApplies sheet) (line ∷ rule ∷ []) refl
+      (finds_first (EarlyApplies sheet) (line ∷ rule ∷ []) refl
       (decides_reworded (λ p h. rw h.0 (EarlyApplies.too_long h.1)) long_back (decides_if _ LongSheet (tells_below longest_sheet (length sheet))))
-      (λ a. finds-first (EarlyApplies sheet) (rule ∷ []) refl (decides_reworded (λ p. EarlyApplies.bad_line) line_back (decides-line sheet))
-      (λ b. finds-first (EarlyApplies sheet) [] refl
-      (decides_reworded (λ p h. rw h.0 (EarlyApplies.retired_rule h.1)) rule_back_here (decides_there _ 3 RetiredRule (tells-sweep sheet)))
-      (λ c. finds-none (EarlyApplies sheet)))))
+      (λ a. finds_first (EarlyApplies sheet) (rule ∷ []) refl (decides_reworded (λ p. EarlyApplies.bad_line) line_back (decides_line sheet))
+      (λ b. finds_first (EarlyApplies sheet) [] refl
+      (decides_reworded (λ p h. rw h.0 (EarlyApplies.retired_rule h.1)) rule_back_here (decides_there _ 3 RetiredRule (tells_sweep sheet)))
+      (λ c. finds_none (EarlyApplies sheet)))))
 
 -- The run with a list.
 module _ (r : Run) (froms tos : List ℕ) where
@@ -98,10 +98,10 @@ module _ (r : Run) (froms tos : List ℕ) where
 
   priced_finds : Finds (PricedApplies r froms tos) priced_order (first_of (judge_any_of r ∷ list_verdict_any r.head (stops_of r) froms tos ∷ []))
   priced_finds =
-      run-any-finds r (PricedApplies r froms tos) (λ k p. PricedApplies.run) priced_of_run (BadEntry ∷ []) (list_verdict_any r.head (stops_of r) froms tos ∷ [])
-      (λ a. finds-first (PricedApplies r froms tos) [] refl
-      (decides_reworded (λ p. PricedApplies.bad_list) list_back (decides-list-any r (accepted_any r a) froms tos))
-      (λ b. finds-none (PricedApplies r froms tos)))
+      run_any_finds r (PricedApplies r froms tos) (λ k p. PricedApplies.run) priced_of_run (BadEntry ∷ []) (list_verdict_any r.head (stops_of r) froms tos ∷ [])
+      (λ a. finds_first (PricedApplies r froms tos) [] refl
+      (decides_reworded (λ p. PricedApplies.bad_list) list_back (decides_list_any r (accepted_any r a) froms tos))
+      (λ b. finds_none (PricedApplies r froms tos)))
 
 -- The run with the room.
 module _ (words : ℕ) (r : Run) where
@@ -114,15 +114,15 @@ module _ (words : ℕ) (r : Run) where
 
   room_back : refuses (judge_any_of r) ≡ false → (p : ℕ) → PlannedApplies words r ShortRoom p → (p ≡ 0) × (words < room_for r)
   room_back a p (PlannedApplies.run h) = absurd (omega (arith, any_small r h))
-  room_back a p (PlannedApplies.room (short_room s h)) = (refl, rw (stops-one (lifted r) (accepted_any r a).run (stops-up r s)) at h)
+  room_back a p (PlannedApplies.room (short_room s h)) = (refl, rw (stops_one (lifted r) (accepted_any r a).run (stops_up r s)) at h)
 
   pub planned_finds : Finds (PlannedApplies words r) planned_order (first_of (any_checks words r))
   planned_finds =
       let short = refuse_if (ltb words (room_for r)) ShortRoom in
-      run-any-finds r (PlannedApplies words r) (λ k p. PlannedApplies.run) planned_of_run (ShortRoom ∷ []) (short ∷ [])
-      (λ a. finds-first (PlannedApplies words r) [] refl
-      (decides_reworded (λ p h. rw h.0 (PlannedApplies.room (short_room (stops-down r (has-stops (lifted r) (accepted_any r a).run)) h.1))) (room_back a) (decides_if _ ShortRoom (tells_below words (room_for r))))
-      (λ b. finds-none (PlannedApplies words r)))
+      run_any_finds r (PlannedApplies words r) (λ k p. PlannedApplies.run) planned_of_run (ShortRoom ∷ []) (short ∷ [])
+      (λ a. finds_first (PlannedApplies words r) [] refl
+      (decides_reworded (λ p h. rw h.0 (PlannedApplies.room (short_room (stops_down r (has_stops (lifted r) (accepted_any r a).run)) h.1))) (room_back a) (decides_if _ ShortRoom (tells_below words (room_for r))))
+      (λ b. finds_none (PlannedApplies words r)))
 
 -- Three verdicts in a row, and what each finds.
 module _ (OfSheet OfText OfRun : Refusal → ℕ → Type 0) (order : List Refusal) (sheet : List ℕ) (form : Verdict) (others : List Verdict)
@@ -144,16 +144,16 @@ module _ (OfSheet OfText OfRun : Refusal → ℕ → Type 0) (order : List Refus
   all_form = (refl, (refl, tt))
 
   none_so : refuses e₀ ≡ false → SomeApplies OfSheet early_order → ⊥
-  none_so e s = true≢false (sym (not_accepted e₀.refusal ((refused-iff OfSheet early all_early).1 s)) ∙ e)
+  none_so e s = true≢false (sym (not_accepted e₀.refusal ((refused_iff OfSheet early all_early).1 s)) ∙ e)
 
   some_so : refuses e₀ ≡ true → SomeApplies OfSheet early_order
-  some_so e = (refused-iff OfSheet early all_early).0 (λ a. true≢false (sym e ∙ ap is_refusal a))
+  some_so e = (refused_iff OfSheet early all_early).0 (λ a. true≢false (sym e ∙ ap is_refusal a))
 
   none_text : refuses form ≡ false → SomeApplies OfText form_order → ⊥
-  none_text e s = true≢false (sym (not_accepted form.refusal ((refused-iff OfText text all_form).1 s)) ∙ e)
+  none_text e s = true≢false (sym (not_accepted form.refusal ((refused_iff OfText text all_form).1 s)) ∙ e)
 
   some_text_here : refuses form ≡ true → SomeApplies OfText form_order
-  some_text_here e = (refused-iff OfText text all_form).0 (λ a. true≢false (sym e ∙ ap is_refusal a))
+  some_text_here e = (refused_iff OfText text all_form).0 (λ a. true≢false (sym e ∙ ap is_refusal a))
 
   v_early : refuses e₀ ≡ true → e₀ ≡ v
   v_early e = first_refuses e₀ (form ∷ others) e ∙ in_two
@@ -191,7 +191,7 @@ module _ (OfSheet OfText OfRun : Refusal → ℕ → Type 0) (order : List Refus
       ⊎_elim (λ (f : refuses form ≡ true). ap refuses (sym (v_form e f)) ∙ f)
       (λ (f : refuses form ≡ false).
       ap refuses (sym (v_run e f))
-      ∙ ⊎_elim (λ h. absurd (none_so e h)) (λ t. ⊎_elim (λ h. absurd (none_text f h)) (λ h. not_accepted (first_of others).refusal ((refused-iff OfRun run all).1 h)) t) s)
+      ∙ ⊎_elim (λ h. absurd (none_so e h)) (λ t. ⊎_elim (λ h. absurd (none_text f h)) (λ h. not_accepted (first_of others).refusal ((refused_iff OfRun run all).1 h)) t) s)
       (true_or_false (refuses form)))
       (true_or_false (refuses e₀))
 
@@ -202,7 +202,7 @@ module _ (OfSheet OfText OfRun : Refusal → ℕ → Type 0) (order : List Refus
       ⊎_elim (λ (f : refuses form ≡ true). absurd (b (some_text_here f)))
       (λ (f : refuses form ≡ false).
       ap refuses (sym (v_run e f))
-      ∙ ⊎_elim (λ (g : refuses (first_of others) ≡ true). absurd (c ((refused-iff OfRun run all).0 (λ is. true≢false (sym g ∙ ap is_refusal is))))) (λ g. g) (true_or_false (refuses (first_of others))))
+      ∙ ⊎_elim (λ (g : refuses (first_of others) ≡ true). absurd (c ((refused_iff OfRun run all).0 (λ is. true≢false (sym g ∙ ap is_refusal is))))) (λ g. g) (true_or_false (refuses (first_of others))))
       (true_or_false (refuses form)))
       (true_or_false (refuses e₀))
 
@@ -278,7 +278,7 @@ module _ (sheet plan room room' : List ℕ) (is : room' ≡ room_checked sheet p
   room_by_stops e =
       let run = sheet_run sheet in
       let passes = (check_passes (length room) sheet plan e).1 in
-      let has = stops-down run (has-stops (lifted run) (accepted_any run passes).run) in
+      let has = stops_down run (has_stops (lifted run) (accepted_any run passes).run) in
       record {
         stops = length (stops_of (lifted run));
         are = has;

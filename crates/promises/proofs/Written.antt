@@ -11,7 +11,7 @@ use lib.Seq.{take_at}
 use borrow.Author.Tests.{not-false}
 use Rattle.refusals.proofs.Verdicts.{refuses}
 use Rattle.runs.specs.Judging.{judge_of}
-use Rattle.runs.proofs.Search.{true_or_false, first-zero}
+use Rattle.runs.proofs.Search.{true_or_false, first_zero}
 use Rattle.text_bytes.specs.Text.{line_feed, comma, has, before, behind, is_number, is_name, starts_with, value_of, decimal}
 use Rattle.text_bytes.proofs.Bytes.{and_true_both}
 use Rattle.text_bytes.proofs.Split.{split_at, key_split}
@@ -19,16 +19,16 @@ use Rattle.text_lines.specs.Lines.{after_lines, line_after, value_text, is_numbe
 use Rattle.sheet_reader.specs.Lines.{tape_key, head_key, turn_key, rule_key, least_text, files_key, file_key, wants_key, want_key, is_tape_line}
 use Rattle.sheet_reader.specs.Sheet.{longest_sheet, sheet_head, sheet_turn, says_sweep, sheet_files, file_text, sheet_name, sheet_run}
 use Rattle.sheet_reader.specs.Reading.{sheet_verdict}
-use Rattle.sheet_reader.proofs.Good.{good-name, few-files}
+use Rattle.sheet_reader.proofs.Good.{good_name, few_files}
 use Rattle.sheet_reader.proofs.Rows.{length_each}
 use Rattle.text_pages.specs.Printing.{line, number_line, pair_lines, triple_text, triple_line, triple_lines}
 use Rattle.sheet_writer.specs.Writing.{top_text, sheet_text}
 use Rattle.sheet_writer.proofs.RoundTrip.{round_trip}
 use Rattle.sheet_loose.specs.Loose.{loose_files}
 use Rattle.answer_mend.specs.Mending.{first_lines, sheet_remaining, sheet_reads, mended_text}
-use Rattle.demands.proofs.Judged.{judged-accepted}
+use Rattle.demands.proofs.Judged.{judged_accepted}
 use Rattle.demands.proofs.Canonical.{number_text}
-use Rattle.promises.proofs.Same.{fair_wants, text_line, number_line_lem, behind_none, no_number, pair_value, g, below, files-same, named, counted, remain, ask, lower-is, new-sheet}
+use Rattle.promises.proofs.Same.{fair_wants, text_line, number_line_lem, behind_none, no_number, pair_value, g, below, files_same, named, counted, remain, ask, lower_is, new_sheet}
 
 no_pair : is_pair [] ≡ false
 unfolding is_pair before
@@ -121,17 +121,17 @@ module _ (sheet : List ℕ) (good : refuses (sheet_verdict sheet) ≡ false) (fa
 
   file_good_here : (i : ℕ) → i < sheet_files sheet → is_triple_line file_key (line_after i (file_text sheet)) ≡ true
   unfolding first_bad_of
-  file_good_here i l = not-false (is_triple_line file_key (line_after i (file_text sheet))) (first-zero (λ j. not (is_triple_line file_key (line_after j (file_text sheet)))) (sheet_files sheet) (below sheet good (fair_wants sheet fair) least).0 i l)
+  file_good_here i l = not-false (is_triple_line file_key (line_after i (file_text sheet))) (first_zero (λ j. not (is_triple_line file_key (line_after j (file_text sheet)))) (sheet_files sheet) (below sheet good (fair_wants sheet fair) least).0 i l)
 
   table_lines : first_lines (loose_files sheet) (file_text sheet) ≡ triple_lines file_key (sheet_run sheet).starts (sheet_run sheet).lengths (sheet_run sheet).aggregates
   unfolding sheet_run
   table_lines =
-      ap (λ n. first_lines n (file_text sheet)) (files-same sheet good (fair_wants sheet fair) least)
+      ap (λ n. first_lines n (file_text sheet)) (files_same sheet good (fair_wants sheet fair) least)
       ∙ first_are (sheet_files sheet) (file_text sheet) _ (files_text (file_text sheet) (sheet_files sheet) file_good_here)
 
   files_many : loose_files sheet ≡ length (sheet_run sheet).starts
   unfolding sheet_run
-  files_many = files-same sheet good (fair_wants sheet fair) least ∙ sym (length_each (λ i. first_in file_key (line_after i (file_text sheet))) (sheet_files sheet))
+  files_many = files_same sheet good (fair_wants sheet fair) least ∙ sym (length_each (λ i. first_in file_key (line_after i (file_text sheet))) (sheet_files sheet))
 
   remain_is : sheet_remaining sheet ≡ (sheet_run sheet).numbers
   remain_is = remain sheet good (fair_wants sheet fair) least ∙ named sheet good (fair_wants sheet fair) least
@@ -149,10 +149,10 @@ module _ (sheet : List ℕ) (good : refuses (sheet_verdict sheet) ≡ false) (fa
   pub written_so : mended_text sheet ≡ sheet_text (sheet_name sheet) (sheet_run sheet)
   unfolding sheet_text top_text
   written_so =
-      new-sheet sheet good (fair_wants sheet fair) least
+      new_sheet sheet good (fair_wants sheet fair) least
       ∙ rw (
         top_two,
-        lower-is sheet good (fair_wants sheet fair) least,
+        lower_is sheet good (fair_wants sheet fair) least,
         table_lines,
         files_many,
         remain_is,
@@ -167,4 +167,4 @@ module _ (sheet : List ℕ) (good : refuses (sheet_verdict sheet) ≡ false) (fa
   pub mended_short : length (mended_text sheet) ≤ longest_sheet
   mended_short =
       rw written_so
-      (round_trip (sheet_name sheet) (sheet_run sheet) (judged-accepted (sheet_run sheet) fair) (omega (arith, files_many, files-same sheet good (fair_wants sheet fair) least, few-files sheet good)) (good-name sheet good)).short
+      (round_trip (sheet_name sheet) (sheet_run sheet) (judged_accepted (sheet_run sheet) fair) (omega (arith, files_many, files_same sheet good (fair_wants sheet fair) least, few_files sheet good)) (good_name sheet good)).short

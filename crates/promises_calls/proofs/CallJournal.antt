@@ -14,7 +14,7 @@ use Rattle.promises.proofs.DeskDays.{refused_event_changes_nothing}
 use Rattle.promises.proofs.DeskReplay.{journal_of_a_day}
 use Rattle.promises_calls.specs.DeskCalls.{day_in_c}
 use Rattle.promises_calls.specs.CallJournal.{EventMade, EventsMade, JournalGivesTheRow}
-use Rattle.promises_calls.proofs.EventCalls.{event-call-leaves}
+use Rattle.promises_calls.proofs.EventCalls.{event_call_leaves}
 
 turned : {tape : Tape} {rows rows' : List (List ℕ)} {lasts lasts' : List ℕ} {x : Exchange} → EventMade tape rows lasts x rows' lasts'
     → Turned tape (day_in_c rows lasts) x (day_in_c rows' lasts')
@@ -32,7 +32,7 @@ turned {tape} {rows} {rows'} {lasts} {lasts'} {x} e =
       result = e.called.done;
       fits = subst (λ (line : List ℕ). EventAnswered len tape (day_in_c rows lasts) e.room e.out (event_of (line_of line)) e.called.done e.room' e.out') (sym e.asks) e.called.answers;
       says = e.says;
-      leaves = event-call-leaves rows rows' lasts lasts' e.text e.out e.out' e.room e.room' e.sizes e.sizes' tape e.code e.called;
+      leaves = event_call_leaves rows rows' lasts lasts' e.text e.out e.out' e.room e.room' e.sizes e.sizes' tape e.code e.called;
     }
 
 held : {tape : Tape} {rows end : List (List ℕ)} {lasts m : List ℕ} {calls : List Exchange} → EventsMade tape rows lasts calls end m → Held tape (day_in_c rows lasts) calls (day_in_c end m)

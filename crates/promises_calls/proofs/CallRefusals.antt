@@ -29,7 +29,7 @@ use Rattle.text_lines.specs.Lines.{line_of}
 use Rattle.desk_tickets.specs.WaitingTable.{records_verdict}
 use Rattle.desk_tickets.specs.Filings.{in_range, is_full, is_spent, file_verdict}
 use Rattle.desk_tickets.specs.Withdrawals.{is_waiting, withdraw_verdict}
-use Rattle.boundary_desk.proofs.Calling.{filing-verdict, withdrawal-verdict}
+use Rattle.boundary_desk.proofs.Calling.{filing_verdict, withdrawal_verdict}
 use Rattle.sheet_writer.specs.declared.Written.{Written}
 use Rattle.sheet_writer.specs.Writing.{row_verdict, Handed}
 use Rattle.desk_waits.specs.Waits.{waiting_text, any_lasts, waiting_verdict}
@@ -40,10 +40,10 @@ use Rattle.promises.specs.DeskRefusals.{RowApplies, row_order}
 use Rattle.promises.proofs.Callers.{texts_are_handed, text_is_handed_out}
 use Rattle.promises.proofs.Desk.{refusal_keeps}
 use Rattle.promises.proofs.DeskDays.{accepts, refused_event_changes_nothing}
-use Rattle.promises.proofs.DeskRefusals.{row-finds, filing_answers, withdrawal_answers, boarding_answers}
+use Rattle.promises.proofs.DeskRefusals.{row_finds, filing_answers, withdrawal_answers, boarding_answers}
 use Rattle.promises.proofs.DeskVerdicts.{event_verdicts}
 use Rattle.promises_calls.specs.CallRefusals.{ShortCounts, BoardCounts, CodeSays, FileCallAnswers, WithdrawCallAnswers, BoardCallAnswers, EventCallAnswers, any_numbers, WaitingCallAnswers, WaitingTextTold, WaitingIsTold, RefusedFileKeeps, RefusedWithdrawKeeps, RefusedBoardKeeps, RefusedEventKeeps}
-use Rattle.promises_calls.proofs.SheetCalls.{some-refuses, none_passes, says_so}
+use Rattle.promises_calls.proofs.SheetCalls.{some_refuses, none_passes, says_so}
 
 counts_few : (least : ℕ) (words : List ℕ) (len : ℕ) → (places_if least words len < 32) ↔ ((length words < least) ⊎ (len < 32))
 counts_few least words len =
@@ -114,11 +114,11 @@ module _ (len : ℕ) (row : List Ticket) (out : List ℕ) where
 
   by_records : SomeApplies (RowApplies len row any_numbers) row_order → waiting_verdict len row out ≡ ofRecords
   unfolding waiting_verdict
-  by_records s = let e = some-refuses (RowApplies len row any_numbers) row_order both_refuse ofRecords (row-finds len row any_numbers) s in rw e refl
+  by_records s = let e = some_refuses (RowApplies len row any_numbers) row_order both_refuse ofRecords (row_finds len row any_numbers) s in rw e refl
 
   module _ (n : SomeApplies (RowApplies len row any_numbers) row_order → ⊥) where
     passes : refuses ofRecords ≡ false
-    passes = none_passes (RowApplies len row any_numbers) row_order both_refuse ofRecords (row-finds len row any_numbers) n
+    passes = none_passes (RowApplies len row any_numbers) row_order both_refuse ofRecords (row_finds len row any_numbers) n
 
     by_row : length out < length (waiting_text row) → code_of (waiting_verdict len row out) ≡ 8
     unfolding waiting_verdict row_verdict
@@ -137,9 +137,9 @@ module _ (len : ℕ) (row : List Ticket) (out : List ℕ) where
     waiting_text_told =
         record {
           of_records = λ s.
-              let e : refuses (waiting_verdict len row out) ≡ true = ap refuses (by_records s) ∙ some-refuses (RowApplies len row any_numbers) row_order both_refuse ofRecords (row-finds len row any_numbers) s in
+              let e : refuses (waiting_verdict len row out) ≡ true = ap refuses (by_records s) ∙ some_refuses (RowApplies len row any_numbers) row_order both_refuse ofRecords (row_finds len row any_numbers) s in
               let says = h.answer ∙ (texts_are_handed (waiting_verdict len row out) (waiting_text row)).refused e in (
-                rw (says, by_records s) (row-finds len row any_numbers),
+                rw (says, by_records s) (row_finds len row any_numbers),
                 ap (λ x. x.bytes) says,
                 h.left ∙ (rows_are_left (waiting_verdict len row out) (waiting_text row) out).kept e,
               );
@@ -154,7 +154,7 @@ waiting_call_answers rows out out' sizes sizes' code called =
     let len = places_if 1 sizes (length rows) in
     let row = table_at rows in
     record {
-      of_records = λ s. says_so (RowApplies len row any_numbers) row_order (refl, (refl, tt)) (records_verdict len row any_numbers) (row-finds len row any_numbers) code (called.says ∙ ap code_of (by_records len row out s));
+      of_records = λ s. says_so (RowApplies len row any_numbers) row_order (refl, (refl, tt)) (records_verdict len row any_numbers) (row_finds len row any_numbers) code (called.says ∙ ap code_of (by_records len row out s));
       short = λ n l. called.says ∙ by_row len row out n l;
       accepted = λ n l. called.says ∙ by_none len row out n l;
     }
@@ -180,7 +180,7 @@ pub refused_file_keeps : RefusedFileKeeps
 unfolding file_call
 refused_file_keeps rows rows' lasts lasts' given given' f code called some =
     let len = places_if 1 given (places_if 2 lasts (length rows)) in
-    let v = filing-verdict len (table_at rows) f in
+    let v = filing_verdict len (table_at rows) f in
     ⊎_elim
     (λ (h : refuses (file_verdict len (table_at rows) f) ≡ true). (rw (v, h) at called.rows_are, (rw (v, h) at called.lasts_are, rw (v, h) at called.given_is)))
     (λ (h : refuses (file_verdict len (table_at rows) f) ≡ false). absurd (some (called.says ∙ ap code_of v ∙ file_zero len (table_at rows) f h)))
@@ -190,7 +190,7 @@ pub refused_withdraw_keeps : RefusedWithdrawKeeps
 unfolding withdraw_call
 refused_withdraw_keeps rows rows' lasts w code called some =
     let len = places_if 2 lasts (length rows) in
-    let v = withdrawal-verdict len (table_at rows) w in
+    let v = withdrawal_verdict len (table_at rows) w in
     ⊎_elim
     (λ (h : refuses (withdraw_verdict len (table_at rows) w) ≡ true). rw (v, h) at called.rows_are)
     (λ (h : refuses (withdraw_verdict len (table_at rows) w) ≡ false). absurd (some (called.says ∙ ap code_of v ∙ withdraw_zero len (table_at rows) w h)))

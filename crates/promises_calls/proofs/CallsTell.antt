@@ -35,12 +35,12 @@ use Rattle.boundary.specs.Boundary.{code_of}
 use Rattle.boundary.proofs.Calls.{code_accepts}
 use Rattle.boundary_desk.specs.Records.{table_at, lasts_in, with_lasts, with_first, places_if}
 use Rattle.boundary_desk.specs.Calls.{file_call, want_place, taken_with, boarding_of, board_places, one_line, day_at}
-use Rattle.boundary_desk.proofs.Calling.{filing-verdict}
+use Rattle.boundary_desk.proofs.Calling.{filing_verdict}
 use Rattle.promises.specs.DeskTells.{TextStands}
 use Rattle.promises.proofs.DeskDays.{accepts}
-use Rattle.promises.proofs.DeskLines.{there, not_moved, each_added, numbers-told}
+use Rattle.promises.proofs.DeskLines.{there, not_moved, each_added, numbers_told}
 use Rattle.promises.proofs.DeskTells.{accepted_event_tells}
-use Rattle.promises.proofs.DeskRoom.{boarded-behind, event_leaves_the_room}
+use Rattle.promises.proofs.DeskRoom.{boarded_behind, event_leaves_the_room}
 use Rattle.promises_calls.specs.CallsTell.{FileCallTells, AtTheirWants, BoardCallTells, BoardBehind, EventCallTells, EventCallLeavesTheRoom, WaitingTells, WaitingCallTells}
 
 -- A filing.
@@ -58,7 +58,7 @@ file_call_tells rows rows' lasts lasts' given given' f code called zero-code =
     let len = places_if 1 given (places_if 2 lasts (length rows)) in
     let done = file_row len (table_at rows) f in
     let e : is_refusal done.filed.verdict.refusal ≡ false = code_accepts done.filed.verdict (sym called.says ∙ zero-code) in
-    let h : refuses (file_verdict len (table_at rows) f) ≡ false = sym (ap (λ (v : Verdict). is_refusal v.refusal) (filing-verdict len (table_at rows) f)) ∙ e in
+    let h : refuses (file_verdict len (table_at rows) f) ≡ false = sym (ap (λ (v : Verdict). is_refusal v.refusal) (filing_verdict len (table_at rows) f)) ∙ e in
     let now-lasts : lasts' ≡ with_lasts done.filed.lasts lasts = rw e at called.lasts_are in
     let now-given : given' ≡ with_first done.filed.number given = rw e at called.given_is in
     now-given ∙ ap (λ n. n ∷ drop 1 given) (given_last len (table_at rows) f h ∙ ap (λ l. last_of f.office (lasts_in l)) (sym now-lasts))
@@ -82,7 +82,7 @@ module _ (len : ℕ) (tape : Tape) (row : List Ticket) (b : Boarding) (lent afte
       let f = (get_or (boarders row) i no_ticket).file in
       let ns = file_numbers (wants_of row) in
       let h = each_added (boarders row) [] i l in
-      let place : place_in f done.boarded.wants.numbers ≡ place_in f ns = ap (place_in f) (numbers-told len tape row b lent after done boards e) ∙ not_moved f ns _ h in
+      let place : place_in f done.boarded.wants.numbers ≡ place_in f ns = ap (place_in f) (numbers_told len tape row b lent after done boards e) ∙ not_moved f ns _ h in
       (rw place h, rw place (there f ns h))
 
 pub board_call_tells : BoardCallTells
@@ -102,7 +102,7 @@ board_call_tells rows rows' lasts taken taken' sums sums' tape head turn code le
     }
 
 pub board_behind : BoardBehind
-board_behind = boarded-behind
+board_behind = boarded_behind
 
 -- An event.
 pub event_call_tells : EventCallTells
@@ -126,9 +126,9 @@ event_call_leaves_the_room rows rows' lasts lasts' line out out' room room' size
 -- Who waits.
 module _ (v : Verdict) (row : List Ticket) (out out' sizes sizes' : List ℕ) (out-is : out' ≡ written_row v (waiting_text row) out)
     (sizes-are : sizes' ≡ cond (is_refusal v.refusal) sizes (with_first (length (waiting_text row)) sizes)) where
-  waiting_told : refuses v ≡ false → WaitingTells row out sizes out' sizes'
+  waiting_told_here : refuses v ≡ false → WaitingTells row out sizes out' sizes'
   unfolding written_row
-  waiting_told e =
+  waiting_told_here e =
       let is : sizes' ≡ with_first (length (waiting_text row)) sizes = rw e at sizes-are in
       let n : get_or sizes' 0 0 ≡ length (waiting_text row) = ap (λ (s : List ℕ). get_or s 0 0) is in
       let holds : out' ≡ waiting_text row ++ drop (length (waiting_text row)) out = out-is ∙ rw e in
@@ -151,7 +151,7 @@ pub waiting_call_tells : WaitingCallTells
 waiting_call_tells rows out out' sizes sizes' code called =
     let len = places_if 1 sizes (length rows) in
     let v = waiting_verdict len (table_at rows) out in (
-      λ zero-code. waiting_told v (table_at rows) out out' sizes sizes' called.out_is called.sizes_are (code_accepts v (sym called.says ∙ zero-code)),
+      λ zero-code. waiting_told_here v (table_at rows) out out' sizes sizes' called.out_is called.sizes_are (code_accepts v (sym called.says ∙ zero-code)),
       λ some. ⊎_elim (λ (e : refuses v ≡ true). waiting_kept v (table_at rows) out out' sizes sizes' called.out_is called.sizes_are e)
           (λ (e : refuses v ≡ false). absurd (some (called.says ∙ waiting_zero len (table_at rows) out e))) (true_or_false (refuses v)),
     )

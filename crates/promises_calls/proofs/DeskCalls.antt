@@ -22,19 +22,19 @@ use Rattle.desk_tickets.specs.Withdrawals.{withdraw_verdict, withdraw_row}
 use Rattle.desk_tickets.proofs.Placed.{placed_long}
 use Rattle.desk_tickets.proofs.Storing.{accepted_sound, file_accepted}
 use Rattle.desk_tickets.proofs.Leaving.{withdraw_accepted}
-use Rattle.desk_tickets.proofs.Kept.{filed_so_lem, not-filed-so, withdrawn_so_lem, not-withdrawn-so}
+use Rattle.desk_tickets.proofs.Kept.{filed_so_lem, not_filed_so, withdrawn_so_lem, not_withdrawn_so}
 use Rattle.desk_boardings.specs.declared.Boarding.{Boarding}
 use Rattle.desk_boardings.specs.declared.BoardedRow.{BoardedRow}
 use Rattle.desk_boardings.specs.Boardings.{Tape, Boards}
 use Rattle.boundary_desk.specs.Records.{table_at, records_with, lasts_in, with_lasts, places_if}
 use Rattle.boundary_desk.specs.Calls.{filing_of, file_call, FileCalled, withdrawal_of, withdraw_call, WithdrawCalled, boarding_of, board_places, BoardCalled}
-use Rattle.boundary_desk.proofs.Filling.{table-long}
-use Rattle.boundary_desk.proofs.Calling.{filing-verdict, withdrawal-verdict}
+use Rattle.boundary_desk.proofs.Filling.{table_long}
+use Rattle.boundary_desk.proofs.Calling.{filing_verdict, withdrawal_verdict}
 use Rattle.promises.specs.Desk.{Kept, IsTable, Call, Fits, Day}
 use Rattle.promises.proofs.Desk.{table_stays}
-use Rattle.promises.proofs.DeskSteps.{board-accepted, refused-is, boards-lasts}
+use Rattle.promises.proofs.DeskSteps.{board_accepted, refused_is, boards_lasts}
 use Rattle.promises_calls.specs.DeskCalls.{kept_in_c, CallFits, CallsMade, CallsAreADay}
-use Rattle.promises_calls.proofs.Found.{table-found, later-found}
+use Rattle.promises_calls.proofs.Found.{table_found, later_found}
 
 -- A call that begins at a sound table leaves 32 records.
 sound_whole : (k : Kept) → IsTable k → length k.row ≡ 32
@@ -63,7 +63,7 @@ module _ (rows rows' : List (List ℕ)) (lasts : List ℕ) where
 
   -- The table afterwards, from a sound one.
   pub sound_at : (len : ℕ) → refuses (records_verdict len (table_at rows) (lasts_in lasts)) ≡ false → IsTable (kept_in_c rows lasts)
-  sound_at len e = accepted_sound len (table_at rows) (lasts_in lasts) (table-long rows) e
+  sound_at len e = accepted_sound len (table_at rows) (lasts_in lasts) (table_long rows) e
 
 -- A filing.
 module _ (rows rows' : List (List ℕ)) (lasts lasts' given given' : List ℕ) (office file count files code : ℕ)
@@ -74,10 +74,10 @@ module _ (rows rows' : List (List ℕ)) (lasts lasts' given given' : List ℕ) (
       → Left rows lasts done.row done.filed.lasts rows' lasts'
   filing_left len done is rows_are Lasts-are =
       let g : Filing = filing_of lasts office file count files in
-      let verdict_is : done.filed.verdict ≡ file_verdict len (table_at rows) g = ap (λ (d : FiledRow). d.filed.verdict) is ∙ filing-verdict len (table_at rows) g in
+      let verdict_is : done.filed.verdict ≡ file_verdict len (table_at rows) g = ap (λ (d : FiledRow). d.filed.verdict) is ∙ filing_verdict len (table_at rows) g in
       ⊎_elim
       (λ (h : refuses (file_verdict len (table_at rows) g) ≡ true).
-      let so = is ∙ not-filed-so len (table_at rows) g h in
+      let so = is ∙ not_filed_so len (table_at rows) g h in
       stays rows rows' lasts lasts' done.row done.filed.lasts (rw (verdict_is, h) at rows_are) (rw (verdict_is, h) at Lasts-are)
       (ap (λ (d : FiledRow). d.row) so) (ap (λ (d : FiledRow). d.filed.lasts) so))
       (λ (h : refuses (file_verdict len (table_at rows) g) ≡ false).
@@ -86,9 +86,9 @@ module _ (rows rows' : List (List ℕ)) (lasts lasts' given given' : List ℕ) (
       let whole : length done.row ≡ 32
       = whole_after (kept_in_c rows lasts) _ _ (sound_at rows rows' lasts len (file_accepted len (table_at rows) g h).table) (Fits.files {len = len} {k = kept_in_c rows lasts} {f = g} {r = done} refl is) in
       record {
-        table = sym (ap table_at now-rows ∙ table-found done.row rows whole);
+        table = sym (ap table_at now-rows ∙ table_found done.row rows whole);
         numbers = sym (ap lasts_in now-lasts);
-        later = ap (drop 32) now-rows ∙ later-found done.row rows whole;
+        later = ap (drop 32) now-rows ∙ later_found done.row rows whole;
         words = ap (drop 2) now-lasts;
       })
       (true_or_false (refuses (file_verdict len (table_at rows) g)))
@@ -100,10 +100,10 @@ module _ (rows rows' : List (List ℕ)) (lasts : List ℕ) (office number : ℕ)
       → Left rows lasts done.row done.withdrawn.lasts rows' lasts
   withdrawal_left len done is rows_are =
       let w : Withdrawal = withdrawal_of lasts office number in
-      let verdict_is : done.withdrawn.verdict ≡ withdraw_verdict len (table_at rows) w = ap (λ (d : WithdrawnRow). d.withdrawn.verdict) is ∙ withdrawal-verdict len (table_at rows) w in
+      let verdict_is : done.withdrawn.verdict ≡ withdraw_verdict len (table_at rows) w = ap (λ (d : WithdrawnRow). d.withdrawn.verdict) is ∙ withdrawal_verdict len (table_at rows) w in
       ⊎_elim
       (λ (h : refuses (withdraw_verdict len (table_at rows) w) ≡ true).
-      let so = is ∙ not-withdrawn-so len (table_at rows) w h in
+      let so = is ∙ not_withdrawn_so len (table_at rows) w h in
       stays rows rows' lasts lasts done.row done.withdrawn.lasts (rw (verdict_is, h) at rows_are) refl (ap (λ (d : WithdrawnRow). d.row) so) (ap (λ (d : WithdrawnRow). d.withdrawn.lasts) so))
       (λ (h : refuses (withdraw_verdict len (table_at rows) w) ≡ false).
       let so = is ∙ withdrawn_so_lem len (table_at rows) w h in
@@ -111,9 +111,9 @@ module _ (rows rows' : List (List ℕ)) (lasts : List ℕ) (office number : ℕ)
       let whole : length done.row ≡ 32
       = whole_after (kept_in_c rows lasts) _ _ (sound_at rows rows' lasts len (withdraw_accepted len (table_at rows) w h).table) (Fits.withdraws {len = len} {k = kept_in_c rows lasts} {w = w} {r = done} refl is) in
       record {
-        table = sym (ap table_at now-rows ∙ table-found done.row rows whole);
+        table = sym (ap table_at now-rows ∙ table_found done.row rows whole);
         numbers = ap (λ (d : WithdrawnRow). d.withdrawn.lasts) so;
-        later = ap (drop 32) now-rows ∙ later-found done.row rows whole;
+        later = ap (drop 32) now-rows ∙ later_found done.row rows whole;
         words = refl;
       })
       (true_or_false (refuses (withdraw_verdict len (table_at rows) w)))
@@ -127,17 +127,17 @@ module _ (rows rows' : List (List ℕ)) (lasts : List ℕ) (len : ℕ) (tape : T
       let b : Boarding = boarding_of lasts head turn in
       ⊎_elim
       (λ (h : is_refusal done.boarded.answer.refusal ≡ true).
-      let so = refused-is len tape (table_at rows) b lent after done boards h in
-      stays rows rows' lasts lasts done.row done.boarded.lasts (rw h at rows_are) refl (ap (λ (d : BoardedRow). d.row) so) (boards-lasts len tape (table_at rows) b lent after done boards))
+      let so = refused_is len tape (table_at rows) b lent after done boards h in
+      stays rows rows' lasts lasts done.row done.boarded.lasts (rw h at rows_are) refl (ap (λ (d : BoardedRow). d.row) so) (boards_lasts len tape (table_at rows) b lent after done boards))
       (λ (h : is_refusal done.boarded.answer.refusal ≡ false).
       let now-rows : rows' ≡ records_with done.row rows = rw h at rows_are in
       let whole : length done.row ≡ 32
-      = whole_after (kept_in_c rows lasts) _ _ (sound_at rows rows' lasts len (board-accepted len tape (table_at rows) b lent after done boards h))
+      = whole_after (kept_in_c rows lasts) _ _ (sound_at rows rows' lasts len (board_accepted len tape (table_at rows) b lent after done boards h))
       (Fits.boards {len = len} {tape = tape} {k = kept_in_c rows lasts} {b = b} {before = lent} {after = after} {r = done} refl boards) in
       record {
-        table = sym (ap table_at now-rows ∙ table-found done.row rows whole);
-        numbers = boards-lasts len tape (table_at rows) b lent after done boards;
-        later = ap (drop 32) now-rows ∙ later-found done.row rows whole;
+        table = sym (ap table_at now-rows ∙ table_found done.row rows whole);
+        numbers = boards_lasts len tape (table_at rows) b lent after done boards;
+        later = ap (drop 32) now-rows ∙ later_found done.row rows whole;
         words = refl;
       })
       (true_or_false (is_refusal done.boarded.answer.refusal))

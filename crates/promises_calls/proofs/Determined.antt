@@ -18,7 +18,7 @@ use Rattle.answer_desk.specs.declared.Answered.{Answered}
 use Rattle.answer_desk.specs.Answers.{verdict_in}
 use Rattle.answer_desk.specs.Events.{event_of}
 use Rattle.answer_desk.proofs.Determined.{answer_determined}
-use Rattle.desk_rows.proofs.Determined.{board-in-determined}
+use Rattle.desk_rows.proofs.Determined.{board_in_determined}
 use Rattle.sheet_reader.specs.Sheet.{sheet_run, sheet_name}
 use Rattle.sheet_writer.specs.Writing.{written_row}
 use Rattle.sheet_lists.specs.Form.{plan_froms, plan_tos}
@@ -40,7 +40,7 @@ module _ (rows : List (List ℕ)) (lasts : List ℕ) (tape : Tape) (head turn : 
     (q : BoardCalled rows lasts tape head turn lent taken sums code' rows'' after' taken'' sums'') where
   pub board_call_determined : (code ≡ code') × ((rows' ≡ rows'') × ((after ≡ after') × ((taken' ≡ taken'') × (sums' ≡ sums''))))
   board_call_determined =
-      let e = board-in-determined (board_places rows lasts taken sums) tape (table_at rows) (boarding_of lasts head turn) lent p.done q.done after after' p.boards q.boards in (
+      let e = board_in_determined (board_places rows lasts taken sums) tape (table_at rows) (boarding_of lasts head turn) lent p.done q.done after after' p.boards q.boards in (
         p.says ∙ ap (λ (d : BoardedRow). code_of (verdict_in d.boarded.answer)) e.0 ∙ sym q.says,
         (
           p.rows_are ∙ ap (λ (d : BoardedRow). cond (is_refusal d.boarded.answer.refusal) rows (records_with d.row rows)) e.0 ∙ sym q.rows_are,

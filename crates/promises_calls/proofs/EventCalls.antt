@@ -30,16 +30,16 @@ use Rattle.boundary.specs.Boundary.{code_of}
 use Rattle.boundary.proofs.Calls.{code_accepts}
 use Rattle.boundary_desk.specs.Records.{table_at, records_with, lasts_in, with_lasts, places_if}
 use Rattle.boundary_desk.specs.Calls.{one_line, day_at, EventCalled}
-use Rattle.boundary_desk.proofs.Calling.{filing-verdict, withdrawal-verdict}
+use Rattle.boundary_desk.proofs.Calling.{filing_verdict, withdrawal_verdict}
 use Rattle.promises.specs.Desk.{Kept, IsTable, Call, Fits}
 use Rattle.promises.specs.DeskDays.{IsCall}
 use Rattle.promises.proofs.DeskDays.{accepts, refused_event_changes_nothing}
-use Rattle.promises.proofs.DeskSteps.{board-accepted}
-use Rattle.promises.proofs.DeskTells.{told-so, day-is}
+use Rattle.promises.proofs.DeskSteps.{board_accepted}
+use Rattle.promises.proofs.DeskTells.{told_so, day_is}
 use Rattle.promises_calls.specs.DeskCalls.{kept_in_c, day_in_c}
 use Rattle.promises_calls.specs.CallsTell.{CallAccepts, EventIsACall, EventCallIsACall, NoEventCalled}
-use Rattle.promises_calls.proofs.Found.{table-found, later-found}
-use Rattle.promises_calls.proofs.DeskCalls.{kept_so, whole_after, sound-at}
+use Rattle.promises_calls.proofs.Found.{table_found, later_found}
+use Rattle.promises_calls.proofs.DeskCalls.{kept_so, whole_after, sound_at}
 
 -- The call that an accepted event is, on a sound table, and the day that it leaves, whose table has 32 records.
 record Accepts (tape : Tape) (e : Event) (rows : List (List ℕ)) (lasts : List ℕ) (r : Answered) : Type 0 where
@@ -60,26 +60,26 @@ module _ (tape : Tape) (rows : List (List ℕ)) (lasts : List ℕ) (r : Answered
   by_event (Event.File o f c) len room out room' out' p served =
       let g : Filing = record { office = o; file = f; count = c; files = length tape.starts; lasts = lasts_in lasts } in
       let done = file_row len (table_at rows) g in
-      let day = day-is (day_at rows lasts) _ room out r room out' (p.0 room) served in
-      let passes = (told-so (day_at rows lasts) _ room out r room out' (p.0 room) served).0 in
-      let h : refuses (file_verdict len (table_at rows) g) ≡ false = sym (ap (λ (v : Verdict). is_refusal v.refusal) (filing-verdict len (table_at rows) g)) ∙ passes in
-      left_so (Event.File o f c) (Call.filing len g done) IsCall.a_filing (accepts done.filed.verdict.refusal passes) (sound-at rows rows lasts len (file_accepted len (table_at rows) g h).table) done.row done.filed.lasts
+      let day = day_is (day_at rows lasts) _ room out r room out' (p.0 room) served in
+      let passes = (told_so (day_at rows lasts) _ room out r room out' (p.0 room) served).0 in
+      let h : refuses (file_verdict len (table_at rows) g) ≡ false = sym (ap (λ (v : Verdict). is_refusal v.refusal) (filing_verdict len (table_at rows) g)) ∙ passes in
+      left_so (Event.File o f c) (Call.filing len g done) IsCall.a_filing (accepts done.filed.verdict.refusal passes) (sound_at rows rows lasts len (file_accepted len (table_at rows) g h).table) done.row done.filed.lasts
       (Fits.files {len = len} {k = kept_in_c rows lasts} {f = g} {r = done} refl refl) (ap (λ (d : desk.Day). d.row) day) (ap (λ (d : desk.Day). d.lasts) day)
   by_event (Event.Withdraw o n) len room out room' out' p served =
       let w : Withdrawal = record { office = o; number = n; lasts = lasts_in lasts } in
       let done = withdraw_row len (table_at rows) w in
-      let day = day-is (day_at rows lasts) _ room out r room out' (p.0 room) served in
-      let passes = (told-so (day_at rows lasts) _ room out r room out' (p.0 room) served).0 in
-      let h : refuses (withdraw_verdict len (table_at rows) w) ≡ false = sym (ap (λ (v : Verdict). is_refusal v.refusal) (withdrawal-verdict len (table_at rows) w)) ∙ passes in
-      left_so (Event.Withdraw o n) (Call.withdrawal len w done) IsCall.a_withdrawal (accepts done.withdrawn.verdict.refusal passes) (sound-at rows rows lasts len (withdraw_accepted len (table_at rows) w h).table) done.row done.withdrawn.lasts
+      let day = day_is (day_at rows lasts) _ room out r room out' (p.0 room) served in
+      let passes = (told_so (day_at rows lasts) _ room out r room out' (p.0 room) served).0 in
+      let h : refuses (withdraw_verdict len (table_at rows) w) ≡ false = sym (ap (λ (v : Verdict). is_refusal v.refusal) (withdrawal_verdict len (table_at rows) w)) ∙ passes in
+      left_so (Event.Withdraw o n) (Call.withdrawal len w done) IsCall.a_withdrawal (accepts done.withdrawn.verdict.refusal passes) (sound_at rows rows lasts len (withdraw_accepted len (table_at rows) w h).table) done.row done.withdrawn.lasts
       (Fits.withdraws {len = len} {k = kept_in_c rows lasts} {w = w} {r = done} refl refl) (ap (λ (d : desk.Day). d.row) day) (ap (λ (d : desk.Day). d.lasts) day)
   by_event (Event.Board head turn) len room out room' out' p served =
       let b : Boarding = record { head = head; turn = turn; lasts = lasts_in lasts } in
       let done = p.done in
-      let day = day-is (day_at rows lasts) _ room out r room' out' p.answers served in
-      let passes = (told-so (day_at rows lasts) _ room out r room' out' p.answers served).0 in
+      let day = day_is (day_at rows lasts) _ room out r room' out' p.answers served in
+      let passes = (told_so (day_at rows lasts) _ room out r room' out' p.answers served).0 in
       left_so (Event.Board head turn) (Call.boarding len tape b (rows_lent room) p.rows done) IsCall.a_boarding (accepts done.boarded.answer.refusal passes)
-      (sound-at rows rows lasts len (board-accepted len tape (table_at rows) b (rows_lent room) p.rows done p.boards passes)) done.row done.boarded.lasts
+      (sound_at rows rows lasts len (board_accepted len tape (table_at rows) b (rows_lent room) p.rows done p.boards passes)) done.row done.boarded.lasts
       (Fits.boards {len = len} {tape = tape} {k = kept_in_c rows lasts} {b = b} {before = rows_lent room} {after = p.rows} {r = done} refl p.boards) (ap (λ (d : desk.Day). d.row) day) (ap (λ (d : desk.Day). d.lasts) day)
   by_event Event.Bad len room out room' out' p served = absurd (true≢false (ap is_refusal (ap (λ (x : Answered). x.verdict.refusal) (sym p.says) ∙ served)))
 
@@ -91,8 +91,8 @@ landed tape e rows rows' lasts lasts' r a rows_are Lasts-are =
       call = a.call;
       is = a.is;
       accepts = a.accepts;
-      fits = subst (λ (k : Kept). Fits (kept_in_c rows lasts) a.call k) (kept_so (sym (ap table_at rows_are ∙ table-found r.day.row rows a.whole)) (sym (ap lasts_in Lasts-are))) a.fits;
-      later = ap (drop 32) rows_are ∙ later-found r.day.row rows a.whole;
+      fits = subst (λ (k : Kept). Fits (kept_in_c rows lasts) a.call k) (kept_so (sym (ap table_at rows_are ∙ table_found r.day.row rows a.whole)) (sym (ap lasts_in Lasts-are))) a.fits;
+      later = ap (drop 32) rows_are ∙ later_found r.day.row rows a.whole;
       words = ap (drop 2) Lasts-are;
     }
 
@@ -113,10 +113,10 @@ module _ (rows rows' : List (List ℕ)) (lasts lasts' line out out' room room' s
       (λ (e : is_refusal called.done.verdict.refusal ≡ false).
       let now : rows' ≡ records_with called.done.day.row rows = rw e at called.rows_are in
       let numbers : lasts' ≡ with_lasts called.done.day.lasts lasts = rw e at called.lasts_are in
-      day_so_here (ap table_at now ∙ table-found called.done.day.row rows (accepted_so e).whole) (ap lasts_in numbers))
+      day_so_here (ap table_at now ∙ table_found called.done.day.row rows (accepted_so e).whole) (ap lasts_in numbers))
       (true_or_false (is_refusal called.done.verdict.refusal))
     where
-      day_so : {row row' : List Ticket} {l l' : Lasts} → row ≡ row' → l ≡ l' → ◌≡◌ {A = desk.Day} (record { row = row; lasts = l }) (record { row = row'; lasts = l' })
+      day_so_here : {row row' : List Ticket} {l l' : Lasts} → row ≡ row' → l ≡ l' → ◌≡◌ {A = desk.Day} (record { row = row; lasts = l }) (record { row = row'; lasts = l' })
       day_so_here p q = cc
 
 pub event_call_is_a_call : EventCallIsACall

@@ -35,7 +35,7 @@ use Rattle.boundary.proofs.Calls.{code_accepts}
 use Rattle.boundary_texts.specs.Texts.{text_verdict, TextCalled, SheetCalled, AnswerCalled, CheckCalled, both_verdicts, mend_call, MendCalled}
 use Rattle.demands.specs.RefusalTable.{HasStops, SomeApplies}
 use Rattle.demands.proofs.Tests.{tells_below, tells_either}
-use Rattle.demands.proofs.Checks.{decides_if, decides_reworded, Finds, finds-none, finds-first, AllRefuse, refused-iff}
+use Rattle.demands.proofs.Checks.{decides_if, decides_reworded, Finds, finds_none, finds_first, AllRefuse, refused_iff}
 use Rattle.promises.specs.Answers.{room_order}
 use Rattle.promises.specs.AnswersAny.{AnyApplies}
 use Rattle.promises.specs.PlanLines.{PlanAnyPrinted, FiguresAnyPrinted}
@@ -45,26 +45,26 @@ use Rattle.promises.specs.TwoTexts.{EarlyApplies, early_order, PlannedApplies, p
 use Rattle.promises.specs.Mender.{SheetApplies, sheet_order, texts_order}
 use Rattle.promises.proofs.DeskSteps.{not_accepted}
 use Rattle.promises.proofs.Answers.{room_all}
-use Rattle.promises.proofs.AnswersAny.{any-finds, one}
-use Rattle.promises.proofs.AnyLengths.{any-passes}
-use Rattle.promises.proofs.PlanLines.{plan-any-printed}
-use Rattle.promises.proofs.AnyFigures.{figures-printed}
+use Rattle.promises.proofs.AnswersAny.{any_finds, one}
+use Rattle.promises.proofs.AnyLengths.{any_passes}
+use Rattle.promises.proofs.PlanLines.{plan_any_printed}
+use Rattle.promises.proofs.AnyFigures.{figures_printed}
 use Rattle.promises.proofs.Checks.{even_plan}
-use Rattle.promises.proofs.CheckWhole.{whole-text}
+use Rattle.promises.proofs.CheckWhole.{whole_text}
 use Rattle.promises.proofs.InputLengths.{check_passes}
 use Rattle.promises.proofs.ListLines.{plan_form_by_the_table}
-use Rattle.promises.proofs.TwoTexts.{early-finds, planned-finds, first-of-sheet, first-of-text, first-of-run}
-use Rattle.promises.proofs.Mender.{long, line, wants, reads, sheet-finds, rows_joined}
+use Rattle.promises.proofs.TwoTexts.{early_finds, planned_finds, first_of_sheet, first_of_text, first_of_run}
+use Rattle.promises.proofs.Mender.{long, line, wants, reads, sheet_finds, rows_joined}
 use Rattle.promises_calls.specs.CallRefusals.{CodeSays}
 use Rattle.promises_calls.specs.SheetCalls.{RefusedSo, TextTold, RoomCleared, AnswerTold, AnswerCallAnswers, BuysCallAnswers, CheckCallAnswers, BothApply, long_text, short_row, MendCallAnswers}
 
 -- What a verdict finds of an order decides whether it refuses.
 module _ (Applies : Refusal → ℕ → Type 0) (order : List Refusal) (all : AllRefuse order) (v : Verdict) (finds : Finds Applies order v) where
   pub some_refuses : SomeApplies Applies order → refuses v ≡ true
-  some_refuses s = not_accepted v.refusal ((refused-iff Applies finds all).1 s)
+  some_refuses s = not_accepted v.refusal ((refused_iff Applies finds all).1 s)
 
   pub none_passes : (SomeApplies Applies order → ⊥) → refuses v ≡ false
-  none_passes n = ⊎_elim (λ (e : refuses v ≡ true). absurd (n ((refused-iff Applies finds all).0 (λ a. true≢false (sym e ∙ ap is_refusal a))))) (λ (e : refuses v ≡ false). e) (true_or_false (refuses v))
+  none_passes n = ⊎_elim (λ (e : refuses v ≡ true). absurd (n ((refused_iff Applies finds all).0 (λ a. true≢false (sym e ∙ ap is_refusal a))))) (λ (e : refuses v ≡ false). e) (true_or_false (refuses v))
 
   pub says_so : (code : ℕ) → code ≡ code_of v → CodeSays Applies order code
   says_so code is = record { kind = v.refusal; place = v.place; is = is; first = finds }
@@ -113,7 +113,7 @@ answer_told : (Asked Told : List ℕ → Run → List ℕ → Type 0) → ((name
 answer_told Asked Told means sheet out room sizes code out' room' sizes' called cleared =
     let v = any_verdict (length room) sheet in
     let Applies = AnyApplies (length room) sheet in
-    let finds = any-finds (length room) sheet in
+    let finds = any_finds (length room) sheet in
     let name = sheet_name sheet in
     let run = sheet_run sheet in
     record {
@@ -122,7 +122,7 @@ answer_told Asked Told means sheet out room sizes code out' room' sizes' called 
           refused_so_here v (Asked name run) out sizes code out' sizes' called Applies room_order finds e room room' (cleared ∙ room_kept v run room e);
       answered = λ n.
           let e = none_passes Applies room_order room_all v finds n in
-          let passes = (any-passes (length room) sheet e).1 in (
+          let passes = (any_passes (length room) sheet e).1 in (
             told_text v (Asked name run) out sizes code out' sizes' called (Told name run) (means name run passes) e,
             λ stops s. cleared ∙ room_cleared v run room e ∙ ap (λ (m : ℕ). replicate m 0 ++ drop m room) (sym (one (length room) sheet stops passes s)),
           );
@@ -130,11 +130,11 @@ answer_told Asked Told means sheet out room sizes code out' room' sizes' called 
 
 pub answer_call_answers : AnswerCallAnswers
 answer_call_answers sheet out room sizes code out' room' sizes' called =
-    answer_told PlanAnyOf PlanAnyPrinted plan-any-printed sheet out room sizes code out' room' sizes' called.called called.cleared
+    answer_told PlanAnyOf PlanAnyPrinted plan_any_printed sheet out room sizes code out' room' sizes' called.called called.cleared
 
 pub buys_call_answers : BuysCallAnswers
 buys_call_answers sheet out room sizes code out' room' sizes' called =
-    answer_told BuysAnyOf FiguresAnyPrinted (λ name run passes text p. figures-printed run passes p.list p.least name text p.says) sheet out room sizes code out' room' sizes' called.called called.cleared
+    answer_told BuysAnyOf FiguresAnyPrinted (λ name run passes text p. figures_printed run passes p.list p.least name text p.says) sheet out room sizes code out' room' sizes' called.called called.cleared
 
 -- A run sheet and a plan sheet to the verdict.
 module _ (sheet plan out room sizes : List ℕ) (code : ℕ) (out' room' sizes' : List ℕ) (called : CheckCalled sheet plan out room sizes code out' room' sizes') where
@@ -161,15 +161,15 @@ module _ (sheet plan out room sizes : List ℕ) (code : ℕ) (out' room' sizes' 
 
   by_sheet : SomeApplies (EarlyApplies sheet) early_order → Finds (EarlyApplies sheet) early_order v
   unfolding verdict_by
-  by_sheet = first-of-sheet (EarlyApplies sheet) (PlanFormApplies plan) OfRun planned_order sheet (plan_form plan) (any_checks (length room) (sheet_run sheet)) (early-finds sheet) (plan_form_by_the_table plan) (planned-finds (length room) (sheet_run sheet)) Shown []
+  by_sheet = first_of_sheet (EarlyApplies sheet) (PlanFormApplies plan) OfRun planned_order sheet (plan_form plan) (any_checks (length room) (sheet_run sheet)) (early_finds sheet) (plan_form_by_the_table plan) (planned_finds (length room) (sheet_run sheet)) Shown []
 
   by_plan : (SomeApplies (EarlyApplies sheet) early_order → ⊥) → SomeApplies (PlanFormApplies plan) form_order → Finds (PlanFormApplies plan) form_order v
   unfolding verdict_by
-  by_plan = first-of-text (EarlyApplies sheet) (PlanFormApplies plan) OfRun planned_order sheet (plan_form plan) (any_checks (length room) (sheet_run sheet)) (early-finds sheet) (plan_form_by_the_table plan) (planned-finds (length room) (sheet_run sheet)) Shown []
+  by_plan = first_of_text (EarlyApplies sheet) (PlanFormApplies plan) OfRun planned_order sheet (plan_form plan) (any_checks (length room) (sheet_run sheet)) (early_finds sheet) (plan_form_by_the_table plan) (planned_finds (length room) (sheet_run sheet)) Shown []
 
   by_run : (SomeApplies (EarlyApplies sheet) early_order → ⊥) → (SomeApplies (PlanFormApplies plan) form_order → ⊥) → Finds OfRun planned_order v
   unfolding verdict_by
-  by_run = first-of-run (EarlyApplies sheet) (PlanFormApplies plan) OfRun planned_order sheet (plan_form plan) (any_checks (length room) (sheet_run sheet)) (early-finds sheet) (plan_form_by_the_table plan) (planned-finds (length room) (sheet_run sheet)) Shown []
+  by_run = first_of_run (EarlyApplies sheet) (PlanFormApplies plan) OfRun planned_order sheet (plan_form plan) (any_checks (length room) (sheet_run sheet)) (early_finds sheet) (plan_form_by_the_table plan) (planned_finds (length room) (sheet_run sheet)) Shown []
 
   refused_by : (Applies : Refusal → ℕ → Type 0) (order : List Refusal) → AllRefuse order → Finds Applies order v → SomeApplies Applies order → RefusedSo Applies order out room sizes code out' room' sizes'
   refused_by Applies order all finds s =
@@ -178,7 +178,7 @@ module _ (sheet plan out room sizes : List ℕ) (code : ℕ) (out' room' sizes' 
 
   shown : refuses v ≡ false → (text : List ℕ) → Asked text → Shown text
   shown e text p =
-      subst Shown (sym p.says) (whole-text (sheet_name sheet) (sheet_run sheet) (check_passes (length room) sheet plan e).1 plan (plan_froms plan) (plan_tos plan) (even_plan plan) p.list p.least)
+      subst Shown (sym p.says) (whole_text (sheet_name sheet) (sheet_run sheet) (check_passes (length room) sheet plan e).1 plan (plan_froms plan) (plan_tos plan) (even_plan plan) p.list p.least)
 
   answered_by_here : refuses v ≡ false → TextTold Shown out sizes code out' sizes' × RoomCleared (sheet_run sheet) room room'
   answered_by_here e = (
@@ -225,14 +225,14 @@ module _ (text changes out notes sizes : List ℕ) where
   both_find =
       let rows = ltb (length out) (length text) || ltb (length notes) (length changes) in
       let short = rows || ltb (length sizes) 2 in
-      finds-first Both (refuse_if short ShortRow ∷ []) refl (decides_reworded long_there long_back (decides_if (ltb longest_sheet (length text)) LongSheet (tells_below longest_sheet (length text))))
-      (λ a. finds-first Both [] refl
+      finds_first Both (refuse_if short ShortRow ∷ []) refl (decides_reworded long_there long_back (decides_if (ltb longest_sheet (length text)) LongSheet (tells_below longest_sheet (length text))))
+      (λ a. finds_first Both [] refl
       (decides_reworded short_there short_back
       (decides_if short ShortRow
       (tells_either rows (ltb (length sizes) 2)
       (tells_either (ltb (length out) (length text)) (ltb (length notes) (length changes)) (tells_below (length out) (length text)) (tells_below (length notes) (length changes)))
       (tells_below (length sizes) 2))))
-      (λ b. finds-none Both))
+      (λ b. finds_none Both))
 
 module _ (sheet out notes sizes : List ℕ) where
   abbrev ofSheet : Verdict
@@ -249,11 +249,11 @@ module _ (sheet out notes sizes : List ℕ) where
   all_sheet = (refl, (refl, (refl, (refl, tt))))
 
   of_sheet_is : SomeApplies (SheetApplies sheet) sheet_order → mend_call sheet out notes sizes ≡ ofSheet
-  of_sheet_is s = let e = some_refuses (SheetApplies sheet) sheet_order all_sheet ofSheet (sheet-finds sheet) s in call_is ∙ rw e refl
+  of_sheet_is s = let e = some_refuses (SheetApplies sheet) sheet_order all_sheet ofSheet (sheet_finds sheet) s in call_is ∙ rw e refl
 
   of_texts_is : (SomeApplies (SheetApplies sheet) sheet_order → ⊥) → mend_call sheet out notes sizes ≡ ofTexts
   of_texts_is n =
-      let e = none_passes (SheetApplies sheet) sheet_order all_sheet ofSheet (sheet-finds sheet) n in
+      let e = none_passes (SheetApplies sheet) sheet_order all_sheet ofSheet (sheet_finds sheet) n in
       call_is ∙ rw e (first_alone (both_verdicts (mended_text sheet) (changes_text sheet) out notes sizes))
 
   zero_code : refuses (mend_call sheet out notes sizes) ≡ false → code_of (mend_call sheet out notes sizes) ≡ 0
@@ -266,7 +266,7 @@ mend_call_answers sheet out notes sizes code out' notes' sizes' called =
     let text = mended_text sheet in
     let changes = changes_text sheet in
     record {
-      of_sheet = λ s. says_so (SheetApplies sheet) sheet_order (refl, (refl, (refl, (refl, tt)))) (ofSheet sheet out notes sizes) (sheet-finds sheet) code (called.says ∙ ap code_of (of_sheet_is sheet out notes sizes s));
+      of_sheet = λ s. says_so (SheetApplies sheet) sheet_order (refl, (refl, (refl, (refl, tt)))) (ofSheet sheet out notes sizes) (sheet_finds sheet) code (called.says ∙ ap code_of (of_sheet_is sheet out notes sizes s));
       of_texts = λ n. says_so (BothApply text changes out notes sizes) texts_order (refl, (refl, tt)) (ofTexts sheet out notes sizes) (both_find text changes out notes sizes) code (called.says ∙ ap code_of (of_texts_is sheet out notes sizes n));
       kept = λ n.
           ⊎_elim

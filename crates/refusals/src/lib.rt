@@ -103,7 +103,7 @@ pub fn own_number(kind: OwnRefusal) -> u64
 
 // Whether a verdict refuses.
 pub fn refused(v: Verdict) -> bool
-    ensures { result ≡ is_refusal v.refusal }
+    ensures { result ≡ is_refusal (v.refusal) }
 {
     let kind = v.refusal;
     number(kind) != 0

@@ -13,7 +13,7 @@ use Rattle.refusals.specs.Refusals.{first_where}
 use Rattle.runs.specs.Run.{end_at, last_place, most_reads, total}
 use Rattle.runs.specs.Rows.{counted_reads}
 use Rattle.runs.specs.Judging.{bad_place, bad_want, end_before, number_before}
-use Rattle.runs.proofs.Search.{first_more, first-here, or_false_both}
+use Rattle.runs.proofs.Search.{first_more, first_here, or_false_both}
 
 -- A test of `==` that fails against 0.
 not_zero : (n : ℕ) → eqb n 0 ≡ false → 0 < n
@@ -47,7 +47,7 @@ module _ (starts lengths : List ℕ) (before i : ℕ) (p : FilesPassed starts le
   tested = rw (test, p.last)
 
   pub bad_place_found : t ≡ true → i + 1 ≡ first_where (bad_place starts lengths) (length starts)
-  bad_place_found e = sym (first-here (bad_place starts lengths) i (length starts) p.none (tested ∙ e) l)
+  bad_place_found e = sym (first_here (bad_place starts lengths) i (length starts) p.none (tested ∙ e) l)
 
   pub file_passed : t ≡ false → FilesPassed starts lengths (get_or starts i 0 + get_or lengths i 0) (i + 1)
   file_passed e =
@@ -109,7 +109,7 @@ module _ (files : ℕ) (numbers counts : List ℕ) (before i : ℕ) (p : WantsPa
   want_tested = rw (test, p.last)
 
   pub bad_want_found : t ≡ true → i + 1 ≡ first_where (bad_want files numbers counts) (length numbers)
-  bad_want_found e = sym (first-here (bad_want files numbers counts) i (length numbers) p.none (want_tested ∙ e) l)
+  bad_want_found e = sym (first_here (bad_want files numbers counts) i (length numbers) p.none (want_tested ∙ e) l)
 
   pub want_passed : t ≡ false → WantsPassed files numbers counts (get_or numbers i 0) (i + 1)
   want_passed e =

@@ -1,7 +1,7 @@
 -- Files that lie in no aggregate: with a row of zeros every verdict and every stop is what it was before there were aggregates.
 use Prim.Native.Nat.{ℕ, zero, suc, ◌-◌, ◌≤◌, ◌<◌}
 use mathlib.Core.Path.{◌≡◌, refl, sym, ap, ◌∙◌}
-use mathlib.Core.Bool.{Bool, true, false, not, cond, ◌||◌, or_false}
+use mathlib.Core.Bool.{Bool, true, false, not, cond, ◌||◌, or-false}
 use mathlib.Core.Logic.{⊎_elim}
 use mathlib.Core.List.{List, [], ◌∷◌}
 use native.Mathlib.Omega.{arith}
@@ -22,10 +22,10 @@ use Rattle.runs.specs.Rows.{stop_at}
 use Rattle.runs.specs.Judging.{bad_place, bad_number, bad_file, table_checks, wants_checks, head_checks, judge_of}
 use Rattle.runs.specs.Alone.{place_checks, judge_alone}
 use Rattle.runs.proofs.Search.{first_same, true_or_false}
-use Rattle.runs.proofs.Members.{first_stays, last-is}
+use Rattle.runs.proofs.Members.{first_stays, last_is}
 use Rattle.runs.proofs.Joined.{Next, Neighbours, Differ, joined_alone}
 use Rattle.runs.specs.Private.{SoundTable}
-use Rattle.runs.proofs.Judged.{GoodWants, GoodHead, three_accept, places_accepted, wants_accepted, head_accepted, accepted_places, accepted_wants, table-decides, wants-decide, head-decides}
+use Rattle.runs.proofs.Judged.{GoodWants, GoodHead, three_accept, places_accepted, wants_accepted, head_accepted, accepted_places, accepted_wants, table_decides, wants_decide, head_decides}
 
 zeros_length : (n : ℕ) → length (zeros n) ≡ n
 zeros_length n = length-replicate {A = ℕ} n 0
@@ -56,7 +56,7 @@ module _ (n : ℕ) where
   alone_first i = first_stays (zeros n) i (alone_stays i)
 
   pub alone_last : (i : ℕ) → last_member (zeros n) i ≡ i
-  alone_last i = last-is (zeros n) i i (omega arith) (λ k a b. absurd (omega arith)) (alone_stays (suc i))
+  alone_last i = last_is (zeros n) i i (omega arith) (λ k a b. absurd (omega arith)) (alone_stays (suc i))
 
   -- A want's stop is the file itself.
   alone_stop : (starts lengths : List ℕ) (f c : ℕ) → stop_of starts lengths (zeros n) f c ≡ lone_stop starts lengths f c
@@ -105,12 +105,12 @@ alone_stops starts lengths numbers counts head turn files w =
 alone_rows : (starts lengths : List ℕ)
     → (ltb most_files (length starts) || not (eqb (length starts) (length lengths)) || not (eqb (length starts) (length (zeros (length starts)))))
     ≡ (ltb most_files (length starts) || not (eqb (length starts) (length lengths)))
-alone_rows starts lengths = rw (zeros_length (length starts), eq-eqb (length starts) (length starts) refl) (or_false _)
+alone_rows starts lengths = rw (zeros_length (length starts), eq-eqb (length starts) (length starts) refl) (or-false _)
 
 alone_files : (starts lengths : List ℕ) → first_where (bad_file starts lengths (zeros (length starts))) (length starts) ≡ first_where (bad_place starts lengths) (length starts)
 alone_files starts lengths =
     first_same (bad_file starts lengths (zeros (length starts))) (bad_place starts lengths) (length starts)
-    (λ i l. rw (alone_number (length starts) i) (or_false (bad_place starts lengths i)))
+    (λ i l. rw (alone_number (length starts) i) (or-false (bad_place starts lengths i)))
 
 alone_table : (starts lengths : List ℕ) → first_of (table_checks starts lengths (zeros (length starts))) ≡ first_of (place_checks starts lengths)
 alone_table starts lengths =
@@ -159,7 +159,7 @@ module _ (starts lengths numbers counts : List ℕ) (head turn : ℕ) (t : Verdi
   pub places_decide : f ≡ true → t ≡ judge_of (alone_of starts lengths numbers counts head turn)
   unfolding judge_alone
   places_decide e =
-      table-decides (first_of (place_checks starts lengths)) (first_of (wants_checks (length starts) numbers counts)) (head_checks turn head (right_end (lone_stops starts lengths numbers counts)))
+      table_decides (first_of (place_checks starts lengths)) (first_of (wants_checks (length starts) numbers counts)) (head_checks turn head (right_end (lone_stops starts lengths numbers counts)))
       t f t-is f-is e
       ∙ sym (alone_judged starts lengths numbers counts head turn)
 
@@ -170,7 +170,7 @@ module _ (starts lengths numbers counts : List ℕ) (head turn : ℕ) (t : Verdi
     pub alone_wants_decide : f ≡ false → g ≡ true → w ≡ judge_of (alone_of starts lengths numbers counts head turn)
     unfolding judge_alone
     alone_wants_decide e d =
-        wants-decide (first_of (place_checks starts lengths)) (first_of (wants_checks (length starts) numbers counts)) (head_checks turn head (right_end (lone_stops starts lengths numbers counts)))
+        wants_decide (first_of (place_checks starts lengths)) (first_of (wants_checks (length starts) numbers counts)) (head_checks turn head (right_end (lone_stops starts lengths numbers counts)))
         t f t-is f-is w g w-is g-is e d
         ∙ sym (alone_judged starts lengths numbers counts head turn)
 
@@ -178,6 +178,6 @@ module _ (starts lengths numbers counts : List ℕ) (head turn : ℕ) (t : Verdi
         → first_of (head_checks turn head (right_end (lone_stops starts lengths numbers counts))) ≡ judge_of (alone_of starts lengths numbers counts head turn)
     unfolding judge_alone
     alone_head_decides e d =
-        head-decides (first_of (place_checks starts lengths)) (first_of (wants_checks (length starts) numbers counts)) (head_checks turn head (right_end (lone_stops starts lengths numbers counts)))
+        head_decides (first_of (place_checks starts lengths)) (first_of (wants_checks (length starts) numbers counts)) (head_checks turn head (right_end (lone_stops starts lengths numbers counts)))
         t f t-is f-is w g w-is g-is e d
         ∙ sym (alone_judged starts lengths numbers counts head turn)

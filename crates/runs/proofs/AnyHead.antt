@@ -24,7 +24,7 @@ use Rattle.runs.proofs.Sound.{Sound}
 use Rattle.runs.proofs.Joined.{Next, Neighbours, Agree, by_name, join_none, join_same, join_other}
 use Rattle.runs.proofs.Table.{table_file}
 use Rattle.runs.proofs.Judged.{GoodTable, GoodWants, GoodRun, accepted_table, accepted_wants, accepted_run, wants_named}
-use Rattle.runs.proofs.Stops.{right_end_none, right-end-some, extent, run_sound}
+use Rattle.runs.proofs.Stops.{right_end_none, right_end_some, extent, run_sound}
 
 -- The smaller of two.
 pub smaller_first : (x y : ℕ) → x ≤ y → smaller x y ≡ x
@@ -147,7 +147,7 @@ right_on_tape r files wants =
     (λ some.
     let last = length r.numbers - 1 in
     let e = extent r.starts r.lengths r.aggregates files.table files.rows (get_or r.numbers last 0) (wants_named r.starts r.numbers r.counts wants last (omega arith)) in
-    let is = right-end-some r.starts r.lengths r.aggregates r.numbers r.counts (omega arith) (sym wants.equal) in
+    let is = right_end_some r.starts r.lengths r.aggregates r.numbers r.counts (omega arith) (sym wants.equal) in
     let on = (table_file r.starts r.lengths files.table (last_member r.aggregates (get_or r.numbers last 0 - 1)) e.inside).ends in
     omega (arith, is, on))
     (λ none. omega (arith, right_end_none r.starts r.lengths r.aggregates r.numbers r.counts (omega arith)))

@@ -1,7 +1,7 @@
 -- A detour list read off its two rows: the entries, the rules, and the loops that look for a bad one.
 use Prim.Native.Nat.{ℕ, zero, suc, ◌+◌, ◌-◌, ◌≤◌, ◌<◌}
 use mathlib.Core.Path.{◌≡◌, refl, ap, sym, ◌∙◌}
-use mathlib.Core.Bool.{Bool, true, false, not, ◌||◌, ◌&&◌, true≢false, or_true, and-false}
+use mathlib.Core.Bool.{Bool, true, false, not, ◌||◌, ◌&&◌, true≢false, or-true, and-false}
 use mathlib.Core.List.{List, [], ◌∷◌}
 use native.Mathlib.Omega.{arith}
 use native.Mathlib.Numerals.{add-one}
@@ -15,8 +15,8 @@ use Rattle.refusals.specs.Refusals.{first_where}
 use Rattle.runs.specs.Run.{goes_on, first_member, last_member, first_file, want_stops, joined}
 use Rattle.runs.specs.Lists.{Detour, list_of, wanted, leftmost, bad_alone, bad_after, bad_entry, any_below, entry_of, first_bad_entry, list_verdict}
 use Rattle.runs.specs.Private.{last_file, some_between, row_named, row_entry, row_alone, row_clash, row_bad}
-use Rattle.runs.proofs.Search.{first_same, any_same, first_more, first-here, any_none, any-more, any_here, any-done, ltb_same, leb_not_ltb}
-use Rattle.runs.proofs.Members.{and_true_both, goes-on-zero, first_below, first-begins, first_on, first-is, last-above, last_on, member-last}
+use Rattle.runs.proofs.Search.{first_same, any_same, first_more, first_here, any_none, any_more, any_here, any_done, ltb_same, leb_not_ltb}
+use Rattle.runs.proofs.Members.{and_true_both, goes_on_zero, first_below, first_begins, first_on, first_is, last_above, last_on, member_last}
 use Rattle.runs.proofs.Joined.{wanted_joined, leftmost_joined}
 
 -- Looking for a number between two: what is left to look at decides.
@@ -82,18 +82,18 @@ same_test false false f g = refl
 module _ (aggregates : List ℕ) where
   -- The first file of a wanted file's aggregate: it does not go on, and the wanted file lies from it to the last one.
   name_reaches : (n : ℕ) → (goes_on aggregates (first_file aggregates n - 1) ≡ false) × (first_file aggregates n ≤ n) × (n ≤ last_file aggregates (first_file aggregates n))
-  name_reaches zero = (goes-on-zero aggregates, omega arith, omega arith)
+  name_reaches zero = (goes_on_zero aggregates, omega arith, omega arith)
   name_reaches (suc i) =
       let e : suc (first_member aggregates i) - 1 ≡ first_member aggregates i = omega arith in
-      let last = member-last aggregates i (first_member aggregates i) (omega arith) (omega (arith, first_below aggregates i, last-above aggregates i)) in
-      (rw e (first-begins aggregates i), omega (arith, first_below aggregates i), omega (arith, last, last-above aggregates i))
+      let last = member_last aggregates i (first_member aggregates i) (omega arith) (omega (arith, first_below aggregates i, last_above aggregates i)) in
+      (rw e (first_begins aggregates i), omega (arith, first_below aggregates i), omega (arith, last, last_above aggregates i))
 
   reached_name : (f n : ℕ) → goes_on aggregates (f - 1) ≡ false → f ≤ n → n ≤ last_file aggregates f → first_file aggregates n ≡ f
   reached_name zero n e l h = let z : n ≡ 0 = omega arith in rw z refl
   reached_name (suc m) zero e l h = absurd (omega arith)
   reached_name (suc m) (suc i) e l h =
       let k : suc m - 1 ≡ m = omega arith in
-      ap suc (first-is aggregates m i (rw k at e) (omega arith) (λ j a b. last_on aggregates m j a (omega arith)))
+      ap suc (first_is aggregates m i (rw k at e) (omega arith) (λ j a b. last_on aggregates m j a (omega arith)))
 
   name_is : (f n : ℕ) → eqb (first_file aggregates n) f ≡ (not (goes_on aggregates (f - 1)) && (leb f n && leb n (last_file aggregates f)))
   name_is f n = same_test _ _ there back
@@ -152,11 +152,11 @@ module _ (starts lengths aggregates : List ℕ) where
     pub wanted_named : (f : ℕ) → wanted (joined (want_stops starts lengths aggregates ns cs)) f ≡ row_named aggregates ns f
     wanted_named f = wanted_joined (want_stops starts lengths aggregates ns cs) f ∙ wanted_wants ns cs same f
 
-    pub leftmost_first_here : leftmost (joined (want_stops starts lengths aggregates ns cs)) ≡ first_file aggregates (get_or ns 0 0)
-    leftmost_first_here = leftmost_joined (want_stops starts lengths aggregates ns cs) ∙ leftmost_wants ns cs same
+    pub leftmost_first : leftmost (joined (want_stops starts lengths aggregates ns cs)) ≡ first_file aggregates (get_or ns 0 0)
+    leftmost_first = leftmost_joined (want_stops starts lengths aggregates ns cs) ∙ leftmost_wants ns cs same
 
     alone_row : (d : Detour) → bad_alone (joined (want_stops starts lengths aggregates ns cs)) d ≡ row_alone aggregates ns d.from d.to
-    alone_row d = rw (wanted_named d.from, wanted_named d.to, leftmost_first_here) (by_name (row_named aggregates ns d.from) refl)
+    alone_row d = rw (wanted_named d.from, wanted_named d.to, leftmost_first) (by_name (row_named aggregates ns d.from) refl)
       where
         by_name : (b : Bool) → row_named aggregates ns d.from ≡ b
             → (not (row_named aggregates ns d.from) || not (row_named aggregates ns d.to) || ltb d.to d.from || leb d.from (first_file aggregates (get_or ns 0 0)))
@@ -198,10 +198,10 @@ module _ (froms tos : List ℕ) (i : ℕ) where
 
     pub unclashed_more : j < i → t ≡ false → Unclashed froms tos i (j + 1)
     unclashed_more l e =
-        record { within = omega arith; none = any-more (λ k. bad_after (row_entry froms tos k) (row_entry froms tos i)) j p.none (sym test ∙ e) }
+        record { within = omega arith; none = any_more (λ k. bad_after (row_entry froms tos k) (row_entry froms tos i)) j p.none (sym test ∙ e) }
 
   pub unclashed_all : (j : ℕ) → Unclashed froms tos i j → i ≤ j → false ≡ row_clash froms tos i
-  unclashed_all j p l = any-done (λ k. bad_after (row_entry froms tos k) (row_entry froms tos i)) j i p.none p.within l
+  unclashed_all j p l = any_done (λ k. bad_after (row_entry froms tos k) (row_entry froms tos i)) j i p.none p.within l
 
 -- Before the entry at index i: none before it is bad.
 pub record EntriesPassed (aggregates numbers froms tos : List ℕ) (i : ℕ) : Type 0 where
@@ -211,11 +211,11 @@ pub record EntriesPassed (aggregates numbers froms tos : List ℕ) (i : ℕ) : T
 module _ (aggregates numbers froms tos : List ℕ) (i : ℕ) (p : EntriesPassed aggregates numbers froms tos i) (l : i < length froms) (t : Bool)
     (alone : t ≡ row_alone aggregates numbers (get_or froms i 0) (get_or tos i 0)) where
   pub bad_by_itself : t ≡ true → i + 1 ≡ first_where (row_bad aggregates numbers froms tos) (length froms)
-  bad_by_itself e = sym (first-here (row_bad aggregates numbers froms tos) i (length froms) p.none (rw (← alone, e)) l)
+  bad_by_itself e = sym (first_here (row_bad aggregates numbers froms tos) i (length froms) p.none (rw (← alone, e)) l)
 
   module _ (u : Bool) (clash : u ≡ row_clash froms tos i) where
     pub bad_against : u ≡ true → i + 1 ≡ first_where (row_bad aggregates numbers froms tos) (length froms)
-    bad_against e = sym (first-here (row_bad aggregates numbers froms tos) i (length froms) p.none (rw (← clash, e, or_true)) l)
+    bad_against e = sym (first_here (row_bad aggregates numbers froms tos) i (length froms) p.none (rw (← clash, e, or-true)) l)
 
     pub entry_passed : t ≡ false → u ≡ false → EntriesPassed aggregates numbers froms tos (i + 1)
     entry_passed e d =

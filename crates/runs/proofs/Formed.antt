@@ -15,7 +15,7 @@ use Rattle.runs.specs.Run.{Stop}
 use Rattle.runs.specs.Judging.{right_end}
 use Rattle.runs.specs.Rows.{stop_at}
 use Rattle.runs.specs.Lists.{Detour, wanted, leftmost, bad_alone, bad_after, bad_entry, any_below, entry_of, first_bad_entry, WellFormed}
-use Rattle.runs.proofs.Search.{first-zero, any-zero, or_false_both}
+use Rattle.runs.proofs.Search.{first_zero, any_zero, or_false_both}
 use Rattle.runs.proofs.Sound.{Sound}
 use Rattle.runs.proofs.Joined.{place_by}
 use Rattle.runs.proofs.Stops.{NamedAt, wanted_at}
@@ -58,19 +58,19 @@ formed_entry stops list i e =
       inner = alone.inner;
       falls = λ j l.
           leb-false (entry_of list j).from (entry_of list i).from
-          (or_false_both (leb (entry_of list j).from (entry_of list i).from) _ (any-zero (λ k. bad_after (entry_of list k) (entry_of list i)) i all.1 j l)).0;
+          (or_false_both (leb (entry_of list j).from (entry_of list i).from) _ (any_zero (λ k. bad_after (entry_of list k) (entry_of list i)) i all.1 j l)).0;
     }
 
 pub formed_names : (stops : List Stop) (list : List Detour) → WellFormed stops list → (i : ℕ) → i < length list
     → (wanted stops (entry_of list i).from ≡ true) × (wanted stops (entry_of list i).to ≡ true)
 unfolding first_bad_entry
 formed_names stops list f i l =
-    let alone = passes_alone stops (entry_of list i) (or_false_both (bad_alone stops (entry_of list i)) _ (first-zero (bad_entry stops list) (length list) f i l)).0 in
+    let alone = passes_alone stops (entry_of list i) (or_false_both (bad_alone stops (entry_of list i)) _ (first_zero (bad_entry stops list) (length list) f i l)).0 in
     (alone.from, alone.to)
 
 pub formed_entries : (stops : List Stop) (list : List Detour) → WellFormed stops list → (i : ℕ) → i < length list → FormedEntry stops list i
 unfolding first_bad_entry
-formed_entries stops list f i l = formed_entry stops list i (first-zero (bad_entry stops list) (length list) f i l)
+formed_entries stops list f i l = formed_entry stops list i (first_zero (bad_entry stops list) (length list) f i l)
 
 leftmost_at : (stops : List Stop) → 0 < length stops → leftmost stops ≡ (stop_at stops 0).file
 leftmost_at [] l = absurd (omega arith)
@@ -103,21 +103,21 @@ module _ (stops : List Stop) (m : ℕ) (ok : Sound stops m) where
   pub names_most : (i j : ℕ) → j < length stops → (stop_at stops i).file ≤ (stop_at stops j).file → i < length stops → i ≤ j
   names_most i j h l k = elim (dec_lt j i) [ yes lt ↦ absurd (omega (arith, names_rise j i lt k)) | no n ↦ omega arith ]
 
-  pub ends_rise_here : (i j : ℕ) → i ≤ j → j < length stops → (stop_at stops i).end ≤ (stop_at stops j).end
-  ends_rise_here i zero l h = let e : i ≡ 0 = omega arith in rw e (omega arith)
-  ends_rise_here i (suc j) l h =
-      let before = ends_rise_here i j in
+  pub ends_rise : (i j : ℕ) → i ≤ j → j < length stops → (stop_at stops i).end ≤ (stop_at stops j).end
+  ends_rise i zero l h = let e : i ≡ 0 = omega arith in rw e (omega arith)
+  ends_rise i (suc j) l h =
+      let before = ends_rise i j in
       ⊎_elim
       (λ (e : i ≡ suc j). rw e (omega arith))
       (λ (lt : i < suc j). omega (arith, before (omega arith) (omega arith), ok.apart j h, ok.extends (suc j) h))
       (eq-or-lt_of_le l)
 
   -- From the start of a stop to the end of one at or right of it.
-  pub start_to_end_here : (i j : ℕ) → i ≤ j → j < length stops → (stop_at stops i).start < (stop_at stops j).end
-  start_to_end_here i j l h = omega (arith, ok.extends i (omega arith), ends_rise_here i j l h)
+  pub start_to_end : (i j : ℕ) → i ≤ j → j < length stops → (stop_at stops i).start < (stop_at stops j).end
+  start_to_end i j l h = omega (arith, ok.extends i (omega arith), ends_rise i j l h)
 
   pub end_to_right : (i : ℕ) → i < length stops → (stop_at stops i).end ≤ (stop_at stops (length stops - 1)).end
-  end_to_right i l = ends_rise_here i (length stops - 1) (omega arith) (omega arith)
+  end_to_right i l = ends_rise i (length stops - 1) (omega arith) (omega arith)
 
   -- The place of a stop by its name is the stop's.
   pub place_at : (g : Stop → ℕ) (i : ℕ) → i < length stops → place_by g stops (stop_at stops i).file ≡ g (stop_at stops i)

@@ -18,7 +18,7 @@ use Rattle.runs.specs.Judging.{right_end}
 use Rattle.runs.specs.Judging.{bad_place, bad_number, bad_file, bad_want, table_checks, wants_checks, head_checks, judge_of}
 use Rattle.runs.specs.Alone.{place_checks}
 use Rattle.runs.specs.Private.{SoundTable, InTable, earlier_of}
-use Rattle.runs.proofs.Search.{first-zero, first_all, first_either, or_false_both, below_or_here}
+use Rattle.runs.proofs.Search.{first_zero, first_all, first_either, or_false_both, below_or_here}
 use Rattle.refusals.proofs.Verdicts.{refuses, first_refuses, first_passes, first_alone, AllAccept, all_accept, accepts_if, accepts_at}
 use Rattle.runs.proofs.Accepted.{GoodWant, good_want, want_good}
 
@@ -66,7 +66,7 @@ pub accepted_table : (starts lengths aggregates : List ℕ) → refuses (first_o
 accepted_table starts lengths aggregates e =
     let all = all_accept (table_checks starts lengths aggregates) e in
     let rows = table_rows_fit (length starts) (length lengths) (length aggregates) all.0 in
-    let none = first-zero (bad_file starts lengths aggregates) (length starts) (accepts_at _ BadFile refl all.1.0) in
+    let none = first_zero (bad_file starts lengths aggregates) (length starts) (accepts_at _ BadFile refl all.1.0) in
     record {
       few = rows.few;
       table = record { equal = rows.equal; sound = first_all (bad_place starts lengths) (length starts) (λ i l. (or_false_both (bad_place starts lengths i) (bad_number aggregates i) (none i l)).0) };
@@ -88,7 +88,7 @@ accepted_wants files numbers counts e =
     record {
       few = rows.0;
       equal = rows.1;
-      each = λ i l. good_want files numbers counts i (first-zero (bad_want files numbers counts) (length numbers) sound i l);
+      each = λ i l. good_want files numbers counts i (first_zero (bad_want files numbers counts) (length numbers) sound i l);
       reads = ltb-false most_reads (total counts) (accepts_if _ TooManyReads refl all.1.1.0);
     }
 

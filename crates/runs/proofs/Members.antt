@@ -56,22 +56,22 @@ module _ (aggregates : List ℕ) where
   unfolding first_member
   first_goes i e = rw e
 
-  pub first_stays_here : (i : ℕ) → goes_on aggregates i ≡ false → first_member aggregates i ≡ i
+  pub first_stays : (i : ℕ) → goes_on aggregates i ≡ false → first_member aggregates i ≡ i
   unfolding first_member
-  first_stays_here zero e = refl
-  first_stays_here (suc i) e = rw e
+  first_stays zero e = refl
+  first_stays (suc i) e = rw e
 
   pub first_below : (i : ℕ) → first_member aggregates i ≤ i
-  first_below zero = omega (arith, first_stays_here 0 goes_on_zero)
+  first_below zero = omega (arith, first_stays 0 goes_on_zero)
   first_below (suc i) =
       let before = first_below i in
-      ⊎_elim (λ e. omega (arith, first_goes i e)) (λ e. omega (arith, first_stays_here (suc i) e)) (true_or_false (goes_on aggregates (suc i)))
+      ⊎_elim (λ e. omega (arith, first_goes i e)) (λ e. omega (arith, first_stays (suc i) e)) (true_or_false (goes_on aggregates (suc i)))
 
   pub first_begins : (i : ℕ) → goes_on aggregates (first_member aggregates i) ≡ false
-  first_begins zero = rw (first_stays_here 0 goes_on_zero) goes_on_zero
+  first_begins zero = rw (first_stays 0 goes_on_zero) goes_on_zero
   first_begins (suc i) =
       let before = first_begins i in
-      ⊎_elim (λ e. rw (first_goes i e) before) (λ e. rw (first_stays_here (suc i) e) e) (true_or_false (goes_on aggregates (suc i)))
+      ⊎_elim (λ e. rw (first_goes i e) before) (λ e. rw (first_stays (suc i) e) e) (true_or_false (goes_on aggregates (suc i)))
 
   pub first_on : (i k : ℕ) → first_member aggregates i < k → k ≤ i → goes_on aggregates k ≡ true
   first_on zero k l h = absurd (omega arith)
@@ -79,16 +79,16 @@ module _ (aggregates : List ℕ) where
       let before = first_on i k in
       ⊎_elim
       (λ e. ⊎_elim (λ (same : k ≡ suc i). rw same e) (λ (less : k < suc i). before (omega (arith, first_goes i e)) (omega arith)) (eq-or-lt_of_le h))
-      (λ e. absurd (omega (arith, first_stays_here (suc i) e)))
+      (λ e. absurd (omega (arith, first_stays (suc i) e)))
       (true_or_false (goes_on aggregates (suc i)))
 
   -- It is the only entry of that kind.
   pub first_is : (m i : ℕ) → goes_on aggregates m ≡ false → m ≤ i → ((k : ℕ) → m < k → k ≤ i → goes_on aggregates k ≡ true) → first_member aggregates i ≡ m
-  first_is m zero e l on = let z : m ≡ 0 = omega arith in rw z (first_stays_here 0 goes_on_zero)
+  first_is m zero e l on = let z : m ≡ 0 = omega arith in rw z (first_stays 0 goes_on_zero)
   first_is m (suc i) e l on =
       let before = first_is m i e in
       ⊎_elim
-      (λ (same : m ≡ suc i). rw same (first_stays_here (suc i) (rw same at e)))
+      (λ (same : m ≡ suc i). rw same (first_stays (suc i) (rw same at e)))
       (λ (less : m < suc i). first_goes i (on (suc i) less (omega arith)) ∙ before (omega arith) (λ k a b. on k a (omega arith)))
       (eq-or-lt_of_le l)
 
@@ -140,8 +140,8 @@ module _ (aggregates : List ℕ) where
   pub last_on : (i k : ℕ) → i < k → k ≤ last_member aggregates i → goes_on aggregates k ≡ true
   last_on i k = within_on (length aggregates) i k
 
-  pub last_ends_here : (i : ℕ) → goes_on aggregates (suc (last_member aggregates i)) ≡ false
-  last_ends_here i = within_ends (length aggregates) i (omega arith)
+  pub last_ends : (i : ℕ) → goes_on aggregates (suc (last_member aggregates i)) ≡ false
+  last_ends i = within_ends (length aggregates) i (omega arith)
 
   pub last_within_lem : (i : ℕ) → i < length aggregates → last_member aggregates i < length aggregates
   last_within_lem i l =
@@ -167,7 +167,7 @@ module _ (aggregates : List ℕ) where
 
   pub member_last : (i j : ℕ) → first_member aggregates i ≤ j → j ≤ last_member aggregates i → last_member aggregates j ≡ last_member aggregates i
   member_last i j l h =
-      last_is j (last_member aggregates i) h (λ k a b. on_between i k (omega arith) b) (last_ends_here i)
+      last_is j (last_member aggregates i) h (λ k a b. on_between i k (omega arith) b) (last_ends i)
 
   -- So an aggregate is known by its first entry.
   pub same_last : (i j : ℕ) → first_member aggregates i ≡ first_member aggregates j → last_member aggregates i ≡ last_member aggregates j
@@ -189,7 +189,7 @@ module _ (aggregates : List ℕ) where
       meet n = elim (dec_lt (last_member aggregates i) j) [ yes a ↦ across a | no m ↦ member_first i j (omega (arith, first_below i)) (omega arith) ]
         where
           across : last_member aggregates i < j → first_member aggregates j ≡ first_member aggregates i
-          across a = absurd (true≢false (sym (first_on j (suc (last_member aggregates i)) (omega arith) a) ∙ last_ends_here i))
+          across a = absurd (true≢false (sym (first_on j (suc (last_member aggregates i)) (omega arith) a) ∙ last_ends i))
 
 -- Going left from an entry as long as entries go on, and right.
 pub first_before : (aggregates : List ℕ) (i j : ℕ) → 0 < j → first_member aggregates j ≡ first_member aggregates i → goes_on aggregates j ≡ true → first_member aggregates (j - 1) ≡ first_member aggregates i
@@ -197,7 +197,7 @@ first_before aggregates i zero l e on = absurd (omega arith)
 first_before aggregates i (suc j) l e on = let k : suc j - 1 ≡ j = omega arith in rw k (sym (first_goes aggregates j on) ∙ e)
 
 pub first_at_zero : (aggregates : List ℕ) (i j : ℕ) → j ≤ 0 → first_member aggregates j ≡ first_member aggregates i → j ≡ first_member aggregates i
-first_at_zero aggregates i zero l e = sym (first_stays_here aggregates 0 (goes_on_zero aggregates)) ∙ e
+first_at_zero aggregates i zero l e = sym (first_stays aggregates 0 (goes_on_zero aggregates)) ∙ e
 first_at_zero aggregates i (suc j) l e = absurd (omega arith)
 
 pub record GoneRight (aggregates : List ℕ) (i j : ℕ) : Type 0 where

@@ -15,8 +15,8 @@ use Rattle.runs.specs.Run.{goes_on, first_member, last_member, most_aggregates}
 use Rattle.runs.specs.Lists.{any_below}
 use Rattle.runs.specs.Judging.{returns, bad_number}
 use Rattle.runs.specs.Private.{Spanned}
-use Rattle.runs.proofs.Search.{first_more, first-here, or_false_both, true_or_false, any_here, any_none, any-more, below_or_here}
-use Rattle.runs.proofs.Members.{goes-on-same, goes-on-when, goes-on-zero, first-is, first-begins, first_on, first_below, first_goes}
+use Rattle.runs.proofs.Search.{first_more, first_here, or_false_both, true_or_false, any_here, any_none, any_more, below_or_here}
+use Rattle.runs.proofs.Members.{goes_on_same, goes_on_when, goes_on_zero, first_is, first_begins, first_on, first_below, first_goes}
 
 -- A number outside the bounds of those met was not met.
 none_met : (aggregates : List ℕ) (a i : ℕ) → ((j : ℕ) → j < i → get_or aggregates j 0 ≡ a → ⊥) → any_below (λ j. eqb (get_or aggregates j 0) a) i ≡ false
@@ -66,7 +66,7 @@ spanned_more aggregates low high i less more s a b =
 
 module _ (aggregates : List ℕ) (low high i : ℕ) (p : NumbersPassed aggregates low high i) (l : i < length aggregates) (t : Bool) (test : t ≡ bad_number aggregates i) where
   pub bad_number_found : t ≡ true → i + 1 ≡ first_where (bad_number aggregates) (length aggregates)
-  bad_number_found e = sym (first-here (bad_number aggregates) i (length aggregates) p.none (sym test ∙ e) l)
+  bad_number_found e = sym (first_here (bad_number aggregates) i (length aggregates) p.none (sym test ∙ e) l)
 
   pub number_passed : t ≡ false → (less more : ℕ) → (less ≤ low) × (0 < get_or aggregates i 0 → less ≤ get_or aggregates i 0) → (high ≤ more) × (get_or aggregates i 0 ≤ more)
       → NumbersPassed aggregates less more (i + 1)
@@ -101,7 +101,7 @@ module _ (aggregates : List ℕ) where
       let before = on_same_number i j in
       ⊎_elim
       (λ (same : i ≡ suc j). rw same refl)
-      (λ (less : i < suc j). before (omega arith) (λ k a b. on k a (omega arith)) ∙ (goes-on-same aggregates j (on (suc j) less (omega arith))).0)
+      (λ (less : i < suc j). before (omega arith) (λ k a b. on k a (omega arith)) ∙ (goes_on_same aggregates j (on (suc j) less (omega arith))).0)
       (eq-or-lt_of_le l)
 
   -- In a table whose numbers are not bad, the entries between two of one number all go on.
@@ -111,7 +111,7 @@ module _ (aggregates : List ℕ) where
     same_number_on i (suc j) h l same some k a b =
         let before = same_number_on i j in
         let here = number_goes_on aggregates i (suc j) (good (suc j) h) l same some in
-        let back = goes-on-same aggregates j here in
+        let back = goes_on_same aggregates j here in
         ⊎_elim
         (λ (end : k ≡ suc j). rw end here)
         (λ (less : k < suc j). before (omega arith) (omega arith) (same ∙ sym back.0) (omega (arith, back.0)) k a (omega arith))
@@ -120,7 +120,7 @@ module _ (aggregates : List ℕ) where
     -- So two entries have the same first member just where they are one entry or have the same number other than 0.
     same_first_later : (i j : ℕ) → j < n → i < j → get_or aggregates i 0 ≡ get_or aggregates j 0 → 0 < get_or aggregates j 0 → first_member aggregates i ≡ first_member aggregates j
     same_first_later i j h l same some =
-        sym (first-is aggregates (first_member aggregates i) j (first-begins aggregates i) (omega (arith, first_below aggregates i)) on)
+        sym (first_is aggregates (first_member aggregates i) j (first_begins aggregates i) (omega (arith, first_below aggregates i)) on)
       where
         on : (k : ℕ) → first_member aggregates i < k → k ≤ j → goes_on aggregates k ≡ true
         on k a b = elim (dec_lt i k) [ yes y ↦ same_number_on i j h l same some k y b | no x ↦ first_on aggregates i k a (omega arith) ]
@@ -142,7 +142,7 @@ module _ (aggregates : List ℕ) where
   same_first_less : (i j : ℕ) → i < j → first_member aggregates i ≡ first_member aggregates j → (get_or aggregates i 0 ≡ get_or aggregates j 0) × (0 < get_or aggregates j 0)
   same_first_less i zero l e = absurd (omega arith)
   same_first_less i (suc j) l e =
-      (on_same_number i (suc j) (omega arith) on, (goes-on-same aggregates j (on (suc j) l (omega arith))).1)
+      (on_same_number i (suc j) (omega arith) on, (goes_on_same aggregates j (on (suc j) l (omega arith))).1)
     where
       on : (k : ℕ) → i < k → k ≤ suc j → goes_on aggregates k ≡ true
       on k a b = first_on aggregates (suc j) k (omega (arith, first_below aggregates i)) b

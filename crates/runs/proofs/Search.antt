@@ -1,7 +1,7 @@
 -- The first entry at which a test holds, as a loop finds it, and what that says of each entry; the same for "some entry".
 use Prim.Native.Nat.{ℕ, zero, suc, ◌+◌, ◌≤◌, ◌<◌}
 use mathlib.Core.Path.{◌≡◌, refl, ap, sym, ◌∙◌}
-use mathlib.Core.Bool.{Bool, true, false, not, ◌||◌, or_true}
+use mathlib.Core.Bool.{Bool, true, false, not, ◌||◌, or-true}
 use mathlib.Core.Logic.{⊎_elim, ◌⊎◌, inl, inr}
 use native.Mathlib.Omega.{arith}
 use native.Mathlib.Nat.{eq-or-lt_of_le, le_of_suc-le-suc}
@@ -38,9 +38,9 @@ pub below_or_here : (i j : ℕ) → j < suc i → (j ≡ i) ⊎ (j < i)
 below_or_here i j l = eq-or-lt_of_le (le_of_suc-le-suc l)
 
 module _ (bad : ℕ → Bool) where
-  pub first_none_here : first_where bad 0 ≡ 0
+  pub first_none : first_where bad 0 ≡ 0
   unfolding first_where
-  first_none_here = refl
+  first_none = refl
 
   pub first_more : (i : ℕ) → first_where bad i ≡ 0 → bad i ≡ false → first_where bad (i + 1) ≡ 0
   unfolding first_where
@@ -81,20 +81,20 @@ module _ (bad : ℕ → Bool) where
       ⊎_elim (λ same. rw same s.1) (λ lt. first_zero n s.0 i lt) (below_or_here n i l)
 
   -- The first is one of the entries, and the test holds at none before it.
-  pub first_within_here : (n : ℕ) → first_where bad n ≤ n
+  pub first_within : (n : ℕ) → first_where bad n ≤ n
   unfolding first_where
-  first_within_here zero = omega arith
-  first_within_here (suc n) = grows (first_where bad n) (bad n) (first_within_here n)
+  first_within zero = omega arith
+  first_within (suc n) = grows (first_where bad n) (bad n) (first_within n)
     where
       grows : (p : ℕ) (b : Bool) → p ≤ n → one_more p b n ≤ suc n
       grows zero true l = omega arith
       grows zero false l = omega arith
       grows (suc p) b l = omega arith
 
-  pub first_before_here : (n i : ℕ) → first_where bad n ≡ suc i → (j : ℕ) → j < i → bad j ≡ false
+  pub first_before : (n i : ℕ) → first_where bad n ≡ suc i → (j : ℕ) → j < i → bad j ≡ false
   unfolding first_where
-  first_before_here zero i e j l = absurd (omega arith)
-  first_before_here (suc n) i e j l = by_found (first_where bad n) refl (bad n) e (first_before_here n i)
+  first_before zero i e j l = absurd (omega arith)
+  first_before (suc n) i e j l = by_found (first_where bad n) refl (bad n) e (first_before n i)
     where
       by_found : (p : ℕ) → first_where bad n ≡ p → (b : Bool) → one_more p b n ≡ suc i → (first_where bad n ≡ suc i → (k : ℕ) → k < i → bad k ≡ false) → bad j ≡ false
       by_found zero none true h ih = first_zero n none j (omega arith)
@@ -102,10 +102,10 @@ module _ (bad : ℕ → Bool) where
       by_found (suc p) found b h ih = ih (found ∙ h) j l
 
   -- And the other way round.
-  pub first_all_here : (n : ℕ) → ((i : ℕ) → i < n → bad i ≡ false) → first_where bad n ≡ 0
+  pub first_all : (n : ℕ) → ((i : ℕ) → i < n → bad i ≡ false) → first_where bad n ≡ 0
   unfolding first_where
-  first_all_here zero h = refl
-  first_all_here (suc n) h = rw (first_all_here n (λ i l. h i (omega arith)), h n (omega arith))
+  first_all zero h = refl
+  first_all (suc n) h = rw (first_all n (λ i l. h i (omega arith)), h n (omega arith))
 
   pub any_none : any_below bad 0 ≡ false
   unfolding any_below
@@ -122,7 +122,7 @@ module _ (bad : ℕ → Bool) where
   unfolding any_below
   any_here i zero here l = absurd (omega arith)
   any_here i (suc n) here l =
-      ⊎_elim (λ e. rw (← e, here, or_true)) (λ lt. rw (any_here i n here lt)) (below_or_here n i l)
+      ⊎_elim (λ e. rw (← e, here, or-true)) (λ lt. rw (any_here i n here lt)) (below_or_here n i l)
 
   pub any_zero : (n : ℕ) → any_below bad n ≡ false → (i : ℕ) → i < n → bad i ≡ false
   unfolding any_below
@@ -158,7 +158,7 @@ pub first_either : (f g : ℕ → Bool) (n : ℕ) → first_where (λ i. f i || 
 unfolding first_where
 first_either f g zero = refl
 first_either f g (suc n) =
-    rw (first_either f g n) (either_more (first_where f n) (first_where g n) n (f n) (g n) (first_within_here f n) (first_within_here g n))
+    rw (first_either f g n) (either_more (first_where f n) (first_where g n) n (f n) (g n) (first_within f n) (first_within g n))
 
 -- The earlier of two places, as the code takes it.
 pub earlier_none : (p q : ℕ) → q ≡ 0 → p ≡ earlier_of p q

@@ -19,8 +19,8 @@ use Rattle.runs.specs.Judging.{judge_of}
 use Rattle.runs.specs.Private.{SoundTable, InTable}
 use Rattle.runs.proofs.Search.{true_or_false}
 use Rattle.runs.proofs.Sound.{Sound}
-use Rattle.runs.proofs.Members.{first_below, first_stays, first-begins, last-above, last_within_lem, member-last, same-last, same-or-apart}
-use Rattle.runs.proofs.Joined.{Next, Neighbours, Agree, Places, Fine, Apart, Alike, Follows, AllFine, Strict, reads_of, right_joined, strict_joined, strict_sound, length_joined, reads_joined, place_by, place-joined, wanted_joined}
+use Rattle.runs.proofs.Members.{first_below, first_stays, first_begins, last_above, last_within_lem, member_last, same_last, same_or_apart}
+use Rattle.runs.proofs.Joined.{Next, Neighbours, Agree, Places, Fine, Apart, Alike, Follows, AllFine, Strict, reads_of, right_joined, strict_joined, strict_sound, length_joined, reads_joined, place_by, place_joined, wanted_joined}
 use Rattle.runs.proofs.Table.{table_file, ends_rise, end_before_start}
 use Rattle.runs.proofs.Judged.{GoodTable, GoodWants, GoodRun, accepted_run, wants_named}
 
@@ -39,7 +39,7 @@ module _ (starts lengths aggregates : List ℕ) where
   pub stops_agree : (f c g d : ℕ) → Agree (stop_of starts lengths aggregates f c) (stop_of starts lengths aggregates g d)
   stops_agree f c g d e =
       let same : first_member aggregates (f - 1) ≡ first_member aggregates (g - 1) = first_less_one aggregates f ∙ ap (λ x. x - 1) e ∙ sym (first_less_one aggregates g) in
-      record { start = ap (λ i. get_or starts i 0) same; end = ap (λ i. end_at starts lengths i) (same-last aggregates (f - 1) (g - 1) same) }
+      record { start = ap (λ i. get_or starts i 0) same; end = ap (λ i. end_at starts lengths i) (same_last aggregates (f - 1) (g - 1) same) }
 
   pub wants_agree : (ns cs : List ℕ) → Neighbours Agree (want_stops starts lengths aggregates ns cs)
   unfolding want_stops
@@ -50,8 +50,8 @@ module _ (starts lengths aggregates : List ℕ) where
   wants_agree (f ∷ g ∷ gs) (c ∷ d ∷ cs) = (stops_agree f c g d, wants_agree (g ∷ gs) (d ∷ cs))
 
   -- The rightmost end is the same before and after joining, whatever is handed in.
-  pub right_end_joined_here : (ns cs : List ℕ) → right_end (joined (want_stops starts lengths aggregates ns cs)) ≡ right_end (want_stops starts lengths aggregates ns cs)
-  right_end_joined_here ns cs = right_joined (want_stops starts lengths aggregates ns cs) (wants_agree ns cs)
+  pub right_end_joined_lem : (ns cs : List ℕ) → right_end (joined (want_stops starts lengths aggregates ns cs)) ≡ right_end (want_stops starts lengths aggregates ns cs)
+  right_end_joined_lem ns cs = right_joined (want_stops starts lengths aggregates ns cs) (wants_agree ns cs)
 
   pub wants_length : (ns cs : List ℕ) → length cs ≡ length ns → length (want_stops starts lengths aggregates ns cs) ≡ length ns
   unfolding want_stops
@@ -59,19 +59,19 @@ module _ (starts lengths aggregates : List ℕ) where
   wants_length (f ∷ fs) [] e = absurd (omega arith)
   wants_length (f ∷ fs) (c ∷ cs) e = ap suc (wants_length fs cs (omega arith))
 
-  pub want_at : (ns cs : List ℕ) → length cs ≡ length ns → (i : ℕ) → i < length ns
+  pub want_at_lem : (ns cs : List ℕ) → length cs ≡ length ns → (i : ℕ) → i < length ns
       → stop_at (want_stops starts lengths aggregates ns cs) i ≡ stop_of starts lengths aggregates (get_or ns i 0) (get_or cs i 0)
   unfolding want_stops
-  want_at_here [] cs e i l = absurd (omega arith)
-  want_at_here (f ∷ fs) [] e i l = absurd (omega arith)
-  want_at_here (f ∷ fs) (c ∷ cs) e zero l = refl
-  want_at_here (f ∷ fs) (c ∷ cs) e (suc i) l = want_at_here fs cs (omega arith) i (omega arith)
+  want_at_lem [] cs e i l = absurd (omega arith)
+  want_at_lem (f ∷ fs) [] e i l = absurd (omega arith)
+  want_at_lem (f ∷ fs) (c ∷ cs) e zero l = refl
+  want_at_lem (f ∷ fs) (c ∷ cs) e (suc i) l = want_at_lem fs cs (omega arith) i (omega arith)
 
   pub wants_drop : (ns cs : List ℕ) → length cs ≡ length ns → (i : ℕ) → i < length ns
       → drop i (want_stops starts lengths aggregates ns cs) ≡ stop_of starts lengths aggregates (get_or ns i 0) (get_or cs i 0) ∷ drop (suc i) (want_stops starts lengths aggregates ns cs)
   wants_drop ns cs e i l =
       let nowhere : Stop = record { file = 0; start = 0; end = 0; count = 0 } in
-      rw (drop-cons (want_stops starts lengths aggregates ns cs) i nowhere (omega (arith, wants_length ns cs e)), want_at_here ns cs e i l)
+      rw (drop-cons (want_stops starts lengths aggregates ns cs) i nowhere (omega (arith, wants_length ns cs e)), want_at_lem ns cs e i l)
 
   -- The reads of the wants are the counts handed in.
   pub wants_reads : (ns cs : List ℕ) → length cs ≡ length ns → reads_of (want_stops starts lengths aggregates ns cs) ≡ total cs
@@ -91,17 +91,17 @@ module _ (starts lengths aggregates : List ℕ) where
   right_end_last_here n (m ∷ ns) (c ∷ []) e = absurd (omega arith)
   right_end_last_here n (m ∷ ns) (c ∷ d ∷ cs) e = right_end_last_here m ns (d ∷ cs) (omega arith)
 
-  pub right_end_none_here : (ns cs : List ℕ) → length ns ≡ 0 → 0 ≡ right_end (joined (want_stops starts lengths aggregates ns cs))
+  pub right_end_none : (ns cs : List ℕ) → length ns ≡ 0 → 0 ≡ right_end (joined (want_stops starts lengths aggregates ns cs))
   unfolding right_end want_stops joined
-  right_end_none_here [] cs e = refl
-  right_end_none_here (n ∷ ns) cs e = absurd (omega arith)
+  right_end_none [] cs e = refl
+  right_end_none (n ∷ ns) cs e = absurd (omega arith)
 
   pub right_end_some : (ns cs : List ℕ) → (length ns ≡ 0 → ⊥) → length cs ≡ length ns
       → end_at starts lengths (last_member aggregates (get_or ns (length ns - 1) 0 - 1)) ≡ right_end (joined (want_stops starts lengths aggregates ns cs))
   right_end_some [] cs some e = absurd (some refl)
   right_end_some (n ∷ ns) cs some e =
       let k : suc (length ns) - 1 ≡ length ns = omega arith in
-      rw k (sym (right_end_joined_here (n ∷ ns) cs ∙ right_end_last_here n ns cs e))
+      rw k (sym (right_end_joined_lem (n ∷ ns) cs ∙ right_end_last_here n ns cs e))
 
   -- In a sound table.
   module _ (table : SoundTable starts lengths) (rows : length starts ≡ length aggregates) where
@@ -114,8 +114,8 @@ module _ (starts lengths aggregates : List ℕ) where
       pub ends_right : end_at starts lengths (f - 1) ≤ end_at starts lengths (last_member aggregates (f - 1))
       pub extends : get_or starts (first_member aggregates (f - 1)) 0 < end_at starts lengths (last_member aggregates (f - 1))
 
-    starts_rise : (i j : ℕ) → i ≤ j → j < length starts → get_or starts i 0 ≤ get_or starts j 0
-    starts_rise i j l h =
+    starts_rise_here : (i j : ℕ) → i ≤ j → j < length starts → get_or starts i 0 ≤ get_or starts j 0
+    starts_rise_here i j l h =
         ⊎_elim
         (λ (e : i ≡ j). rw e (omega arith))
         (λ (lt : i < j). omega (arith, end_before_start starts lengths table i j lt h))
@@ -124,13 +124,13 @@ module _ (starts lengths aggregates : List ℕ) where
     pub extent : (f : ℕ) → InTable starts f → Extent f
     extent f n =
         let first = first_below aggregates (f - 1) in
-        let last = last-above aggregates (f - 1) in
+        let last = last_above aggregates (f - 1) in
         let inside : last_member aggregates (f - 1) < length starts = omega (arith, last_within_lem aggregates (f - 1) (omega arith)) in
         record {
           first = first;
           last = last;
           inside = inside;
-          starts_left = starts_rise (first_member aggregates (f - 1)) (f - 1) first (omega arith);
+          starts_left = starts_rise_here (first_member aggregates (f - 1)) (f - 1) first (omega arith);
           ends_right = ends_rise starts lengths table (f - 1) (last_member aggregates (f - 1)) last inside;
           extends = omega (arith, (table_file starts lengths table (first_member aggregates (f - 1)) (omega arith)).long, ends_rise starts lengths table (first_member aggregates (f - 1)) (last_member aggregates (f - 1)) (omega arith) inside);
         }
@@ -149,7 +149,7 @@ module _ (starts lengths aggregates : List ℕ) where
         ⊎_elim
         (λ e. inl (alike e))
         (λ lt. inr (apart lt))
-        (same-or-apart aggregates (f - 1) (g - 1) (omega arith))
+        (same_or_apart aggregates (f - 1) (g - 1) (omega arith))
       where
         alike : first_member aggregates (f - 1) ≡ first_member aggregates (g - 1) → Alike (stop_of starts lengths aggregates f c) (stop_of starts lengths aggregates g d)
         alike e =
@@ -159,7 +159,7 @@ module _ (starts lengths aggregates : List ℕ) where
         apart : last_member aggregates (f - 1) < first_member aggregates (g - 1) → Apart (stop_of starts lengths aggregates f c) (stop_of starts lengths aggregates g d)
         apart lt =
             record {
-              ascends = omega (arith, first_file_lem aggregates f a.least, first_file_lem aggregates g b.least, first_below aggregates (f - 1), last-above aggregates (f - 1));
+              ascends = omega (arith, first_file_lem aggregates f a.least, first_file_lem aggregates g b.least, first_below aggregates (f - 1), last_above aggregates (f - 1));
               clear = extents_apart f g b lt;
             }
 
@@ -208,7 +208,7 @@ module _ (starts lengths aggregates : List ℕ) where
 
   name_last : (n f : ℕ) → first_file aggregates n ≡ f → last_member aggregates (n - 1) ≡ last_member aggregates (f - 1)
   name_last n f e =
-      sym (member-last aggregates (n - 1) (first_member aggregates (n - 1)) (omega arith) (omega (arith, first_below aggregates (n - 1), last-above aggregates (n - 1))))
+      sym (member_last aggregates (n - 1) (first_member aggregates (n - 1)) (omega arith) (omega (arith, first_below aggregates (n - 1), last_above aggregates (n - 1))))
       ∙ ap (last_member aggregates) (name_index n f e)
 
   start_wanted : (ns cs : List ℕ) (f : ℕ) → wanted (want_stops starts lengths aggregates ns cs) f ≡ true
@@ -261,7 +261,7 @@ module _ (starts lengths aggregates : List ℕ) where
     name_first =
         let o = want_named in
         let e = name_index (get_or ns o.index 0) f o.names in
-        ap (first_member aggregates) (sym e) ∙ first_stays aggregates _ (first-begins aggregates (get_or ns o.index 0 - 1)) ∙ e
+        ap (first_member aggregates) (sym e) ∙ first_stays aggregates _ (first_begins aggregates (get_or ns o.index 0 - 1)) ∙ e
 
     pub name_in_table : ((i : ℕ) → i < length ns → InTable starts (get_or ns i 0)) → InTable starts f
     name_in_table named =
@@ -273,12 +273,12 @@ module _ (starts lengths aggregates : List ℕ) where
 
     pub start_of_name : place_by (λ s. s.start) (joined (want_stops starts lengths aggregates ns cs)) f ≡ get_or starts (f - 1) 0
     start_of_name =
-        place-joined (λ s. s.start) (λ s t. refl) (want_stops starts lengths aggregates ns cs) f
+        place_joined (λ s. s.start) (λ s t. refl) (want_stops starts lengths aggregates ns cs) f
         ∙ start_wanted ns cs f (sym (wanted_joined (want_stops starts lengths aggregates ns cs) f) ∙ w)
 
     pub end_of_name : place_by (λ s. s.end) (joined (want_stops starts lengths aggregates ns cs)) f ≡ end_at starts lengths (last_member aggregates (f - 1))
     end_of_name =
-        place-joined (λ s. s.end) (λ s t. refl) (want_stops starts lengths aggregates ns cs) f
+        place_joined (λ s. s.end) (λ s t. refl) (want_stops starts lengths aggregates ns cs) f
         ∙ end_wanted ns cs f (sym (wanted_joined (want_stops starts lengths aggregates ns cs) f) ∙ w)
 
 -- A name that is wanted stands somewhere among the stops.

@@ -11,12 +11,12 @@ use Rattle.runs.specs.Judging.{right_end}
 use Rattle.runs.specs.Alone.{lone_stops}
 use Rattle.runs.specs.Judging.{bad_place}
 use Rattle.runs.specs.Private.{SoundTable, InTable}
-use Rattle.runs.proofs.Search.{first-zero}
+use Rattle.runs.proofs.Search.{first_zero}
 use Rattle.runs.proofs.Accepted.{GoodFile, good_file}
 
 -- Each file of a sound table is good.
 pub table_file : (starts lengths : List ℕ) → SoundTable starts lengths → (i : ℕ) → i < length starts → GoodFile starts lengths i
-table_file starts lengths t i l = good_file starts lengths i (first-zero (bad_place starts lengths) (length starts) t.sound i l)
+table_file starts lengths t i l = good_file starts lengths i (first_zero (bad_place starts lengths) (length starts) t.sound i l)
 
 pub named_file : (starts lengths : List ℕ) → SoundTable starts lengths → (f : ℕ) → InTable starts f → GoodFile starts lengths (f - 1)
 named_file starts lengths t f n = table_file starts lengths t (f - 1) (omega arith)

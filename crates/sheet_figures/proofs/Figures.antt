@@ -31,10 +31,10 @@ use Rattle.runs.proofs.Entries.{length_list}
 use Rattle.runs.proofs.Judged.{accepted_run}
 use Rattle.runs.proofs.Stops.{run_sound}
 use Rattle.runs.proofs.AnyHead.{GoodAnyRun, accepted_any, sound_right, list_any_same, judge_any_same}
-use Rattle.walk.proofs.Walks.{GoodList, list-fits}
-use Rattle.walk.proofs.AnyHead.{any-good, priced-same}
+use Rattle.walk.proofs.Walks.{GoodList, list_fits_lem}
+use Rattle.walk.proofs.AnyHead.{any_good, priced_same}
 use Rattle.figures.specs.AnyHead.{figures_any_of, figures_any_verdict, figures_any_answer, figures_any_row}
-use Rattle.figures.proofs.AnyHead.{figures_length, figures-are}
+use Rattle.figures.proofs.AnyHead.{figures_length, figures_are}
 use Rattle.text_bytes.specs.Text.{is_name, comma, decimal}
 use Rattle.text_pages.specs.Printing.{number_line, pair_text, Wrote, Put}
 use Rattle.sheet_writer.specs.declared.Written.{Written}
@@ -42,8 +42,8 @@ use Rattle.sheet_writer.specs.Writing.{row_verdict}
 use Rattle.sheet_figures.specs.FigureSheet.{buys_key, figure_line, figure_lines, figure_page, figure_text, figure_sheet_verdict, FigureWritten}
 use Rattle.sheet_figures.specs.AnyHead.{figure_any_text, figure_any_sheet_verdict, FigureAnyWritten}
 use Rattle.sheet_figures.specs.Private.{figure_most, FigureFits}
-use Rattle.text_pages.proofs.Pages.{wrote_on, wrote-within}
-use Rattle.sheet_writer.proofs.Sheets.{last_verdict, judged-refused, judged-passes, run_passes, name_fits}
+use Rattle.text_pages.proofs.Pages.{wrote_on, wrote_within}
+use Rattle.sheet_writer.proofs.Sheets.{last_verdict, judged_refused, judged_passes, run_passes, name_fits}
 
 -- A signed word below zero: one less than its size, as the code takes it from -1, and then the size.
 below : (z : ℤ) → SFits w64 z → lt_z (to_z w64 (of_z w64 z)) (pos 0) ≡ true → negsuc 0 -ℤ to_z w64 (of_z w64 z) ≡ pos (nat_abs z - 1)
@@ -55,11 +55,11 @@ below_size (pos n) fits e = absurd (omega (arith, ltb-true n 0 (rw (to_z-of_z w6
 below_size (negsuc n) fits e = (omega arith, omega (arith, fits.sfits))
 
 module _ (z : ℤ) (fits : SFits w64 z) (e : lt_z (to_z w64 (of_z w64 z)) (pos 0) ≡ true) where
-  pub less_fits_here : SFits w64 (negsuc 0 -ℤ to_z w64 (of_z w64 z))
-  less_fits_here = rw (below z fits e) (record { sfits = omega (arith, (below_size z fits e).1) })
+  pub less_fits : SFits w64 (negsuc 0 -ℤ to_z w64 (of_z w64 z))
+  less_fits = rw (below z fits e) (record { sfits = omega (arith, (below_size z fits e).1) })
 
   less_word : to_z w64 (of_z w64 (negsuc 0 -ℤ to_z w64 (of_z w64 z))) ≡ pos (nat_abs z - 1)
-  less_word = to_z-of_z w64 _ less_fits_here ∙ below z fits e
+  less_word = to_z-of_z w64 _ less_fits ∙ below z fits e
 
   pub less_casts : T (non_neg (to_z w64 (of_z w64 (negsuc 0 -ℤ to_z w64 (of_z w64 z))))) × Fits w64 (nat_abs (to_z w64 (of_z w64 (negsuc 0 -ℤ to_z w64 (of_z w64 z)))))
   less_casts = rw less_word (tt, record { fits = omega (arith, (below_size z fits e).1) })
@@ -109,7 +109,7 @@ figure_wrote page at from to z room sign is n size page₁ next₁ p page₂ nex
     let short = sign_short z in
     let last : Put page₂ next₂ (number_line (sign_key z) (nat_abs z)) (length (sign_key z) + 21) page₃ next₃ = rw (is, size) at r in
     let all = wrote_on (wrote_on (p.room (omega arith)) (omega arith) q) (omega arith) last in
-    subst (λ t. Wrote page at t 69 page₃ next₃) (figure_line_lem from to z) (wrote-within all 69 (omega arith))
+    subst (λ t. Wrote page at t 69 page₃ next₃) (figure_line_lem from to z) (wrote_within all 69 (omega arith))
 
 -- The lines that are left.
 module _ (froms tos : List ℕ) (figures : List ℤ) (even : length froms ≡ length tos) (figured : length froms ≡ length figures) (i : ℕ) where
@@ -128,7 +128,7 @@ module _ (name : List ℕ) (run : Run) (froms tos row : List ℕ) (v w : Verdict
     (f-is : f ≡ is_refusal w.refusal) where
   pub figures_refused : f ≡ true → figure_any_sheet_verdict name run froms tos row ≡ w
   unfolding figure_any_sheet_verdict
-  figures_refused e = judged-refused name (judge_any_of run) false v w v-is w-is f f-is (list_verdict_any run.head (stops_of run) froms tos ∷ row_verdict (figure_any_text name run froms tos) row ∷ []) e
+  figures_refused e = judged_refused name (judge_any_of run) false v w v-is w-is f f-is (list_verdict_any run.head (stops_of run) froms tos ∷ row_verdict (figure_any_text name run froms tos) row ∷ []) e
 
   module _ (good : f ≡ false) where
     good_figures : GoodAnyRun run
@@ -136,7 +136,7 @@ module _ (name : List ℕ) (run : Run) (froms tos row : List ℕ) (v w : Verdict
 
     figures_pass : figure_any_sheet_verdict name run froms tos row ≡ first_of (list_verdict_any run.head (stops_of run) froms tos ∷ row_verdict (figure_any_text name run froms tos) row ∷ [])
     unfolding figure_any_sheet_verdict
-    figures_pass = judged-passes name (judge_any_of run) false v w v-is w-is f f-is good (list_verdict_any run.head (stops_of run) froms tos ∷ row_verdict (figure_any_text name run froms tos) row ∷ [])
+    figures_pass = judged_passes name (judge_any_of run) false v w v-is w-is f f-is good (list_verdict_any run.head (stops_of run) froms tos ∷ row_verdict (figure_any_text name run froms tos) row ∷ [])
 
     -- a is what the figures' routine answered with a row for figures that is long enough, g whether that refuses.
     module _ (space : List ℤ) (room : most_wants ≤ length space) (a : Answer) (a-is : a ≡ figures_any_answer run froms tos space) (g : Bool) (g-is : g ≡ is_refusal a.refusal) where
@@ -146,8 +146,8 @@ module _ (name : List ℕ) (run : Run) (froms tos row : List ℕ) (v w : Verdict
       list_length : is_refusal list.refusal ≡ false → (length (list_of froms tos) ≡ length froms) × (length froms ≤ most_wants)
       unfolding list
       list_length e =
-          let entries = any-good run.head (stops_of run) froms tos e in
-          (length_list froms tos entries.even, omega (arith, list-fits (lifted run) good_figures.run froms tos entries, good_figures.run.wants.few))
+          let entries = any_good run.head (stops_of run) froms tos e in
+          (length_list froms tos entries.even, omega (arith, list_fits_lem (lifted run) good_figures.run froms tos entries, good_figures.run.wants.few))
 
       verdict_good : is_refusal list.refusal ≡ false → figures_any_verdict run froms tos space ≡ accepted
       unfolding figures_any_verdict list
@@ -183,7 +183,7 @@ module _ (name : List ℕ) (run : Run) (froms tos row : List ℕ) (v w : Verdict
       module _ (fine : g ≡ false) where
         good_list_here : GoodList (stops_of run) froms tos
         unfolding list
-        good_list_here = any-good run.head (stops_of run) froms tos (list_says ∙ fine)
+        good_list_here = any_good run.head (stops_of run) froms tos (list_says ∙ fine)
 
         pub few_figures : length froms ≤ most_wants
         few_figures = (list_length (list_says ∙ fine)).1
@@ -225,7 +225,7 @@ module _ (name : List ℕ) (run : Run) (froms tos row : List ℕ) (v w : Verdict
 module _ (name : List ℕ) (run : Run) (accepts : refuses (judge_of run) ≡ false) (froms tos : List ℕ) where
   pub text_same : figure_any_text name run froms tos ≡ figure_text name run froms tos
   unfolding figure_any_text figure_text
-  text_same = rw (priced-same run (accepted_run run accepts) (list_of froms tos), figures-are run froms tos [] accepts (list_of froms tos))
+  text_same = rw (priced_same run (accepted_run run accepts) (list_of froms tos), figures_are run froms tos [] accepts (list_of froms tos))
 
   pub sheet_same : (row : List ℕ) → figure_any_sheet_verdict name run froms tos row ≡ figure_sheet_verdict name run froms tos row
   unfolding figure_any_sheet_verdict figure_sheet_verdict

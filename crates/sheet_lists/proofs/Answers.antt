@@ -49,14 +49,14 @@ module _ (list : List ℕ) (form : Form) (froms tos : List ℕ) (within : FormWi
     form_is : FormIs 0 detours (drop at list) list at detours
     form_is = subst (λ f. FormWithin list f) e within
 
-    short_so : short_pair_rows detours froms tos ≡ true → (v : Verdict) → v ≡ refuse_if true ShortRow → ReadAs list form froms tos (record { verdict = v; detours = 0 }) froms tos
-    short_so s v is = rw (e, is, s) (all_kept (refuse_if true ShortRow) refl detours (drop at list) froms tos)
+    short_so_here : short_pair_rows detours froms tos ≡ true → (v : Verdict) → v ≡ refuse_if true ShortRow → ReadAs list form froms tos (record { verdict = v; detours = 0 }) froms tos
+    short_so_here s v is = rw (e, is, s) (all_kept (refuse_if true ShortRow) refl detours (drop at list) froms tos)
 
     pub read_short_froms : length froms < detours → (v : Verdict) → v ≡ refuse_if true ShortRow → ReadAs list form froms tos (record { verdict = v; detours = 0 }) froms tos
-    read_short_froms l = short_so (rw (lt-ltb (length froms) detours l))
+    read_short_froms l = short_so_here (rw (lt-ltb (length froms) detours l))
 
     pub read_short_tos : detours ≤ length froms → length tos < detours → (v : Verdict) → v ≡ refuse_if true ShortRow → ReadAs list form froms tos (record { verdict = v; detours = 0 }) froms tos
-    read_short_tos l m = short_so (rw (le-ltb (length froms) detours l, lt-ltb (length tos) detours m))
+    read_short_tos l m = short_so_here (rw (le-ltb (length froms) detours l, lt-ltb (length tos) detours m))
 
     pub read_whole : detours ≤ length froms → detours ≤ length tos → (v : Verdict) → v ≡ refuse_if false ShortRow → (froms' tos' : List ℕ)
         → PairsRead detour_key list at detours froms tos froms' tos'

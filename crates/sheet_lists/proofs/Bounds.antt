@@ -17,8 +17,8 @@ use Rattle.walk.specs.declared.Leg.{Leg}
 use Rattle.walk.specs.Walk.{head_at, after_leg, walked, reads, leg_from, leg_for, time_of, times_of, legs_for}
 use Rattle.walk.specs.Detours.{legs_of}
 use Rattle.walk.specs.Price.{priced_answer, priced_times, priced_legs}
-use Rattle.walk.proofs.Walks.{accepted_list, run-walkable}
-use Rattle.walk.proofs.Laws.{sum_below_lem, finish-below, time-below}
+use Rattle.walk.proofs.Walks.{accepted_list, run_walkable}
+use Rattle.walk.proofs.Laws.{sum_below_lem, finish_below, time_below}
 
 -- The head ends where the last leg does, or where it started.
 pub end_near : (turn most : ℕ) (gs : List Leg) (h : Head) → h.place ≤ most → ((i : ℕ) → i < length gs → (get_or gs i (record { left = 0; right = 0 })).right ≤ most) → (walked turn h gs).place ≤ most
@@ -46,15 +46,15 @@ module _ (r : Run) (froms tos : List ℕ) (run : refuses (judge_of r) ≡ false)
   pub end_below : (priced_answer r (list_of froms tos)).end < 2 ^ 64
   unfolding priced_answer
   end_below =
-      let w = run-walkable r (accepted_run r run) froms tos (accepted_list (stops_of r) froms tos list) in
+      let w = run_walkable r (accepted_run r run) froms tos (accepted_list (stops_of r) froms tos list) in
       omega (arith, end_near r.turn last_place (legs_of (stops_of r) (list_of froms tos)) (head_at r.head) w.near w.on_tape)
 
   pub times_below : (i : ℕ) → get_or (priced_times r (list_of froms tos)) i 0 < 2 ^ 64
   unfolding priced_times times_of
-  times_below i = each_below _ (2 ^ 64) (omega arith) (λ s. omega (arith, time-below r froms tos run list s)) (want_stops_of r) i
+  times_below i = each_below _ (2 ^ 64) (omega arith) (λ s. omega (arith, time_below r froms tos run list s)) (want_stops_of r) i
 
   pub legs_below : (i : ℕ) → get_or (priced_legs r (list_of froms tos)) i 0 < 2 ^ 64
   unfolding priced_legs legs_for
   legs_below i =
-      let w = run-walkable r (accepted_run r run) froms tos (accepted_list (stops_of r) froms tos list) in
+      let w = run_walkable r (accepted_run r run) froms tos (accepted_list (stops_of r) froms tos list) in
       each_below _ (2 ^ 64) (omega arith) (λ s. omega (arith, leg_within (legs_of (stops_of r) (list_of froms tos)) 1 s, w.few)) (want_stops_of r) i

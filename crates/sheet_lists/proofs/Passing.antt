@@ -55,9 +55,9 @@ module _ (plan : List ℕ) (passed : ℕ) (test : List ℕ → Bool) (tests : Li
 
 -- The tape's line.
 module _ (plan : List ℕ) (r : NameLine) (f : NameLineFound plan r) where
-  pub tape_bad_here : r ≡ NameLine.Bad → TopFound plan (Top.Bad 1)
+  pub tape_bad : r ≡ NameLine.Bad → TopFound plan (Top.Bad 1)
   unfolding plan_bad_top first_failing
-  tape_bad_here e = record { same = rw (subst (λ x. NameLineFound plan x) e f); some = omega arith }
+  tape_bad e = record { same = rw (subst (λ x. NameLineFound plan x) e f); some = omega arith }
 
   pub tape_good : (end next : ℕ) → r ≡ NameLine.Name end next → Reached plan 1 after_tape next
   unfolding plan_bad_top first_failing after_lines

@@ -14,17 +14,17 @@ use Rattle.refusals.proofs.Verdicts.{refuses}
 use Rattle.runs.specs.Run.{Run, Stop, total, stops_of, want_stops_of, most_wants}
 use Rattle.runs.specs.Judging.{judge_of}
 use Rattle.runs.specs.Lists.{list_of, list_verdict}
-use Rattle.runs.proofs.Search.{true_or_false, first-zero}
+use Rattle.runs.proofs.Search.{true_or_false, first_zero}
 use Rattle.runs.proofs.Entries.{length_list}
 use Rattle.runs.proofs.Judged.{GoodRun, accepted_run}
 use Rattle.runs.proofs.Stops.{run_sound}
-use Rattle.runs.proofs.Stops.{stops-few, wants-length}
+use Rattle.runs.proofs.Stops.{stops_few, wants_length}
 use Rattle.walk.specs.declared.Answer.{Answer}
 use Rattle.walk.specs.Walk.{times_of, legs_for}
 use Rattle.walk.specs.Price.{priced_answer, priced_times, priced_legs}
 use Rattle.walk.proofs.Filling.{one_each}
-use Rattle.walk.proofs.Walks.{GoodList, accepted_list, rows_fit, entries-few, entries_none}
-use Rattle.walk.proofs.Laws.{sum_below_lem, finish-below}
+use Rattle.walk.proofs.Walks.{GoodList, accepted_list, rows_fit, entries_few, entries_none}
+use Rattle.walk.proofs.Laws.{sum_below_lem, finish_below}
 use Rattle.text_bytes.specs.Text.{line_feed, has, behind, starts_with, is_name, is_name_byte, between, all_of, is_empty, decimal}
 use Rattle.text_bytes.proofs.Bytes.{and_true_both, not_empty}
 use Rattle.text_bytes.proofs.Decimals.{has_none, decimal_without}
@@ -35,10 +35,10 @@ use Rattle.text_pages.specs.Printing.{line, number_line, pair_text, pair_line, p
 use Rattle.sheet_writer.specs.PlanSheet.{sum_key, reads_key, finish_key, end_key, detours_key, detour_key, time_key, plan_top, plan_lines, plan_text}
 use Rattle.text_pages.proofs.Pages.{decimal_short}
 use Rattle.sheet_writer.proofs.Sheets.{name_length}
-use Rattle.sheet_writer.proofs.Reread.{line_first, line_behind_lem, key_begins, key_value, number-back, value-back, count-back, after_front, pairs-behind, pairs-good, firsts-back, seconds-back, triples-behind, triples-good}
+use Rattle.sheet_writer.proofs.Reread.{line_first, line_behind_lem, key_begins, key_value, number_back, value_back, count_back, after_front, pairs_behind, pairs_good, firsts_back, seconds_back, triples_behind, triples_good}
 use Rattle.sheet_lists.specs.Form.{most_detours, lines_in, lines_up_to, first_bad_to_end, detours_told, detour_text, time_text, first_failing, plan_bad_top, plan_bad_below, plan_bad_line, plan_froms, plan_tos}
 use Rattle.sheet_lists.specs.Reading.{plan_form}
-use Rattle.sheet_lists.proofs.Bounds.{end_below, times_below, legs-below}
+use Rattle.sheet_lists.proofs.Bounds.{end_below, times_below, legs_below}
 
 -- Lines are counted one by one.
 lines_more : (text : List ℕ) → has line_feed text ≡ true → lines_in text ≡ suc (lines_in (behind line_feed text))
@@ -175,7 +175,7 @@ module _ (name : List ℕ) (reads : ℕ) (a : Answer) (froms tos numbers times l
   abbrev text : List ℕ
   text = plan_lines name reads a froms tos numbers times legs
 
-  text_is : text ≡ line tape_key name ++ rest₁
+  text_is_here : text ≡ line tape_key name ++ rest₁
   unfolding plan_lines plan_top rest₁ rest₂ rest₃ rest₄ rest₅ rest₆ rest₇
   text_is_here =
       regrouped (line tape_key name) (number_line sum_key a.sum) (number_line reads_key reads) (number_line finish_key a.finish) (number_line end_key a.end)
@@ -212,25 +212,25 @@ module _ (name : List ℕ) (reads : ℕ) (a : Answer) (froms tos numbers times l
   unfolding after_lines rest₅ has
   after₆ = ap (behind line_feed) after₅ ∙ line_behind_lem detours_key (decimal a.detours) rest₆ refl (flat a.detours)
 
-  tape_good : is_tape_line (line_after 0 text) ≡ true
+  tape_good_here : is_tape_line (line_after 0 text) ≡ true
   unfolding after_lines has is_tape_line
-  tape_good = ap is_tape_line (ap line_of text_is_here ∙ line_first tape_key name rest₁ refl name_flat_here) ∙ rw (key_begins tape_key name, key_value tape_key name, named)
+  tape_good_here = ap is_tape_line (ap line_of text_is_here ∙ line_first tape_key name rest₁ refl name_flat_here) ∙ rw (key_begins tape_key name, key_value tape_key name, named)
 
   sum_good : is_number_line sum_key (line_after 1 text) ≡ true
   unfolding rest₁ has
-  sum_good = ap (is_number_line sum_key) (ap line_of after₁ ∙ line_first sum_key (decimal a.sum) rest₂ refl (flat a.sum)) ∙ number-back sum_key a.sum small.sum
+  sum_good = ap (is_number_line sum_key) (ap line_of after₁ ∙ line_first sum_key (decimal a.sum) rest₂ refl (flat a.sum)) ∙ number_back sum_key a.sum small.sum
 
   reads_good : is_number_line reads_key (line_after 2 text) ≡ true
   unfolding rest₂ has
-  reads_good = ap (is_number_line reads_key) (ap line_of after₂ ∙ line_first reads_key (decimal reads) rest₃ refl (flat reads)) ∙ number-back reads_key reads small.reads
+  reads_good = ap (is_number_line reads_key) (ap line_of after₂ ∙ line_first reads_key (decimal reads) rest₃ refl (flat reads)) ∙ number_back reads_key reads small.reads
 
   finish_good : is_number_line finish_key (line_after 3 text) ≡ true
   unfolding rest₃ has
-  finish_good = ap (is_number_line finish_key) (ap line_of after₃ ∙ line_first finish_key (decimal a.finish) rest₄ refl (flat a.finish)) ∙ number-back finish_key a.finish small.finish
+  finish_good = ap (is_number_line finish_key) (ap line_of after₃ ∙ line_first finish_key (decimal a.finish) rest₄ refl (flat a.finish)) ∙ number_back finish_key a.finish small.finish
 
   end_good : is_number_line end_key (line_after 4 text) ≡ true
   unfolding rest₄ has
-  end_good = ap (is_number_line end_key) (ap line_of after₄ ∙ line_first end_key (decimal a.end) rest₅ refl (flat a.end)) ∙ number-back end_key a.end small.end
+  end_good = ap (is_number_line end_key) (ap line_of after₄ ∙ line_first end_key (decimal a.end) rest₅ refl (flat a.end)) ∙ number_back end_key a.end small.end
 
   line₅ : line_after 5 text ≡ detours_key ++ decimal a.detours
   unfolding rest₅ has
@@ -239,12 +239,12 @@ module _ (name : List ℕ) (reads : ℕ) (a : Answer) (froms tos numbers times l
   detours_small : a.detours < 2 ^ 64
   detours_small = omega (arith, small.detours, small.few)
 
-  detours_good : is_count_line detours_key most_detours (line_after 5 text) ≡ true
-  detours_good = ap (is_count_line detours_key most_detours) line₅ ∙ count-back detours_key a.detours detours_small most_detours (omega (arith, small.detours, small.few))
+  detours_good_here : is_count_line detours_key most_detours (line_after 5 text) ≡ true
+  detours_good_here = ap (is_count_line detours_key most_detours) line₅ ∙ count_back detours_key a.detours detours_small most_detours (omega (arith, small.detours, small.few))
 
   detours_back : detours_told text ≡ length froms
   unfolding detours_told
-  detours_back = ap (number_behind detours_key) line₅ ∙ value-back detours_key a.detours detours_small ∙ small.detours
+  detours_back = ap (number_behind detours_key) line₅ ∙ value_back detours_key a.detours detours_small ∙ small.detours
 
   detours_text : detour_text text ≡ rest₆
   unfolding detour_text
@@ -255,7 +255,7 @@ module _ (name : List ℕ) (reads : ℕ) (a : Answer) (froms tos numbers times l
   times_text =
       ap (λ n. after_lines n (detour_text text)) detours_back
       ∙ ap (after_lines (length froms)) detours_text
-      ∙ pairs-behind detour_key refl rest₇ froms tos small.even
+      ∙ pairs_behind detour_key refl rest₇ froms tos small.even
       ∙ sym (append-nil rest₇)
 
   detour_good : first_bad_of (is_pair_line detour_key) (detours_told text) (detour_text text) ≡ 0
@@ -263,25 +263,25 @@ module _ (name : List ℕ) (reads : ℕ) (a : Answer) (froms tos numbers times l
   detour_good =
       ap (λ n. first_bad_of (is_pair_line detour_key) n (detour_text text)) detours_back
       ∙ ap (first_bad_of (is_pair_line detour_key) (length froms)) detours_text
-      ∙ pairs-good detour_key refl rest₇ froms tos small.even small.froms (λ i l. small.tos i (omega (arith, small.even)))
+      ∙ pairs_good detour_key refl rest₇ froms tos small.even small.froms (λ i l. small.tos i (omega (arith, small.even)))
 
   times_all : first_bad_of (is_triple_line time_key) (length numbers) (rest₇ ++ []) ≡ 0
   unfolding rest₇ has
   times_all =
-      triples-good time_key refl [] numbers times legs small.timed small.numbered small.numbers
+      triples_good time_key refl [] numbers times legs small.timed small.numbered small.numbers
       (λ i l. small.times i (omega (arith, small.timed)))
       (λ i l. small.legs i (omega (arith, small.numbered)))
 
   times_end : after_lines (length numbers) (rest₇ ++ []) ≡ []
   unfolding rest₇ has
-  times_end = triples-behind time_key refl [] numbers times legs small.timed small.numbered
+  times_end = triples_behind time_key refl [] numbers times legs small.timed small.numbered
 
   time_lines : lines_up_to most_wants (rest₇ ++ []) ≡ length numbers
   unfolding first_bad_of is_triple_line starts_with
   time_lines =
       up_to most_wants (rest₇ ++ []) (length numbers)
       (lines_are (is_triple_line time_key) refl (length numbers) (rest₇ ++ [])
-      (λ i l. not_not (is_triple_line time_key (line_after i (rest₇ ++ []))) (first-zero (λ j. not (is_triple_line time_key (line_after j (rest₇ ++ [])))) (length numbers) times_all i l))
+      (λ i l. not_not (is_triple_line time_key (line_after i (rest₇ ++ []))) (first_zero (λ j. not (is_triple_line time_key (line_after j (rest₇ ++ [])))) (length numbers) times_all i l))
       times_end)
       small.wants
 
@@ -291,21 +291,21 @@ module _ (name : List ℕ) (reads : ℕ) (a : Answer) (froms tos numbers times l
 
   pub all_described : plan_bad_line text ≡ 0
   unfolding plan_bad_line plan_bad_top first_failing after_lines plan_bad_below
-  all_described = rw (tape_good, sum_good, reads_good, finish_good, end_good, detours_good, detour_good, time_good)
+  all_described = rw (tape_good_here, sum_good, reads_good, finish_good, end_good, detours_good_here, detour_good, time_good)
 
   pub starts_back : plan_froms text ≡ froms
   unfolding plan_froms rest₆ has
   starts_back =
       ap (λ n. each_of (λ i. first_in detour_key (line_after i (detour_text text))) n) detours_back
       ∙ ap (λ t. each_of (λ i. first_in detour_key (line_after i t)) (length froms)) detours_text
-      ∙ firsts-back detour_key refl rest₇ froms tos small.even
+      ∙ firsts_back detour_key refl rest₇ froms tos small.even
 
   pub ends_back : plan_tos text ≡ tos
   unfolding plan_tos rest₆ has
   ends_back =
       ap (λ n. each_of (λ i. second_in detour_key (line_after i (detour_text text))) n) detours_back
       ∙ ap (λ t. each_of (λ i. second_in detour_key (line_after i t)) (length froms)) detours_text
-      ∙ seconds-back detour_key refl rest₇ froms tos small.even
+      ∙ seconds_back detour_key refl rest₇ froms tos small.even
 
   pub short_enough : length text ≤ 7644
   unfolding plan_lines plan_top
@@ -335,12 +335,12 @@ module _ (r : Run) (froms tos : List ℕ) (run : refuses (judge_of r) ≡ false)
   pub few_detours : length froms ≤ most_detours
   few_detours =
       elim (dec_lt 0 (length (stops_of r))) [
-        | yes l ↦ omega (arith, count, entries-few (stops_of r) r.head (run_sound r good) (list_of froms tos) (length (list_of froms tos)) entries.each l, stops-few r good, good.wants.few)
+        | yes l ↦ omega (arith, count, entries_few (stops_of r) r.head (run_sound r good) (list_of froms tos) (length (list_of froms tos)) entries.each l, stops_few r good, good.wants.few)
         | no n ↦ omega (arith, count, entries_none (stops_of r) r.head (run_sound r good) (list_of froms tos) (length (list_of froms tos)) entries.each (omega arith))
       ]
 
   each_want : (f : Stop → ℕ) → length (map f (want_stops_of r)) ≡ length r.numbers
-  each_want f = one_each f (want_stops_of r) ∙ wants-length r.starts r.lengths r.aggregates r.numbers r.counts (sym good.wants.equal)
+  each_want f = one_each f (want_stops_of r) ∙ wants_length r.starts r.lengths r.aggregates r.numbers r.counts (sym good.wants.equal)
 
   pub plan_small : PlanSmall (total r.counts) (priced_answer r (list_of froms tos)) froms tos r.numbers (priced_times r (list_of froms tos)) (priced_legs r (list_of froms tos))
   unfolding priced_answer priced_times priced_legs times_of legs_for
@@ -349,7 +349,7 @@ module _ (r : Run) (froms tos : List ℕ) (run : refuses (judge_of r) ≡ false)
       record {
         reads = omega (arith, good.wants.reads);
         sum = omega (arith, sum_below_lem r froms tos run list);
-        finish = omega (arith, finish-below r froms tos run list);
+        finish = omega (arith, finish_below r froms tos run list);
         end = end_below r froms tos run list;
         detours = count;
         few = few_detours;
@@ -361,18 +361,18 @@ module _ (r : Run) (froms tos : List ℕ) (run : refuses (judge_of r) ≡ false)
         tos = λ i l. omega (arith, (rows.list.rights i (omega (arith, entries.even))).most, good.files.few);
         numbers = λ i l. omega (arith, (good.wants.each i l).in_table, good.files.few);
         times = λ i l. times_below r froms tos run list i;
-        legs = λ i l. legs-below r froms tos run list i;
+        legs = λ i l. legs_below r froms tos run list i;
       }
 
   -- What reading the plan sheet gives.
   module _ (name : List ℕ) (named : is_name name ≡ true) where
-    pub plan_short_here : length (plan_text name r froms tos) ≤ 7644
+    pub plan_short : length (plan_text name r froms tos) ≤ 7644
     unfolding plan_text
-    plan_short_here = short_enough name _ _ _ _ _ _ _ named plan_small
+    plan_short = short_enough name _ _ _ _ _ _ _ named plan_small
 
     pub plan_formed : plan_form (plan_text name r froms tos) ≡ accepted
     unfolding plan_text plan_form
-    plan_formed = rw (le-ltb longest_sheet (length (plan_text name r froms tos)) (omega (arith, plan_short_here)), all_described name _ _ _ _ _ _ _ named plan_small)
+    plan_formed = rw (le-ltb longest_sheet (length (plan_text name r froms tos)) (omega (arith, plan_short)), all_described name _ _ _ _ _ _ _ named plan_small)
 
     pub froms_back : plan_froms (plan_text name r froms tos) ≡ froms
     unfolding plan_text

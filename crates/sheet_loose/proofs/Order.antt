@@ -18,7 +18,7 @@ use Rattle.sheet_loose.specs.declared.TopRead.{TopRead}
 use Rattle.sheet_loose.specs.declared.BelowRead.{BelowRead}
 use Rattle.sheet_loose.specs.Loose.{loose_files, loose_wants_text, loose_want_text, loose_wants, loose_end, wants_said, price_left_out, first_bad_loose_top, first_bad_loose_below}
 use Rattle.sheet_loose.specs.Private.{Stands, TopIs, TopBad, TopFound, BlockFound, WantsAt, BelowIs, BelowBad, BelowFound}
-use Rattle.sheet_loose.proofs.Passing.{price-empty, turn-after}
+use Rattle.sheet_loose.proofs.Passing.{price_empty, turn_after}
 
 -- So many lines passed, and one more.
 module _ (sheet : List ℕ) (lines at : ℕ) (here : Stands sheet (after_lines lines sheet) at) (test : List ℕ → Bool) where
@@ -65,40 +65,40 @@ module _ (sheet : List ℕ) (a₁ : ℕ) (p₁ : Passed is_tape_line sheet 0 a�
       test₃ : is_turn_line (line_after 2 sheet) ≡ true
       test₃ = passes sheet 2 a₂ at_turn is_turn_line a₃ p₃.0
 
-      at_rule : Stands sheet (after_lines 3 sheet) a₃
-      at_rule = one_more sheet 2 a₂ at_turn is_turn_line a₃ p₃.0
+      at_rule_here : Stands sheet (after_lines 3 sheet) a₃
+      at_rule_here = one_more sheet 2 a₂ at_turn is_turn_line a₃ p₃.0
 
       pub rule_after : a₂ ≤ a₃
-      rule_after = turn-after sheet a₂ a₃ p₂.within p₃.0
+      rule_after = turn_after sheet a₂ a₃ p₂.within p₃.0
 
-      pub rule_bad_here : is_rule_line (line_of (drop a₃ sheet)) ≡ false → TopBad sheet 4
+      pub rule_bad : is_rule_line (line_of (drop a₃ sheet)) ≡ false → TopBad sheet 4
       unfolding first_bad_loose_top
-      rule_bad_here bad = record { first = rw (test₁, test₂, test₃, fails sheet 3 a₃ at_rule is_rule_line bad); some = omega arith }
+      rule_bad bad = record { first = rw (test₁, test₂, test₃, fails sheet 3 a₃ at_rule_here is_rule_line bad); some = omega arith }
 
       module _ (sweep : Bool) (a₄ : ℕ) (p₄ : Passed is_rule_line sheet a₃ a₄ × (sweep ≡ names_sweep (line_of (drop a₃ sheet)))) where
         test₄ : is_rule_line (line_after 3 sheet) ≡ true
-        test₄ = passes sheet 3 a₃ at_rule is_rule_line a₄ p₄.0
+        test₄ = passes sheet 3 a₃ at_rule_here is_rule_line a₄ p₄.0
 
-        at_files : Stands sheet (after_lines 4 sheet) a₄
-        at_files = one_more sheet 3 a₃ at_rule is_rule_line a₄ p₄.0
+        at_files_here : Stands sheet (after_lines 4 sheet) a₄
+        at_files_here = one_more sheet 3 a₃ at_rule_here is_rule_line a₄ p₄.0
 
         pub files_bad : is_number_line files_key (line_of (drop a₄ sheet)) ≡ false → TopBad sheet 5
         unfolding first_bad_loose_top
-        files_bad bad = record { first = rw (test₁, test₂, test₃, test₄, fails sheet 4 a₄ at_files (is_number_line files_key) bad); some = omega arith }
+        files_bad bad = record { first = rw (test₁, test₂, test₃, test₄, fails sheet 4 a₄ at_files_here (is_number_line files_key) bad); some = omega arith }
 
         pub top_good : (said next : ℕ) → Passed (is_number_line files_key) sheet a₄ next × (said ≡ number_behind files_key (line_of (drop a₄ sheet)))
             → TopIs sheet (record { third = a₂; turn = turn; empty = eqb (a₃ - a₂) 6; sweep = sweep; said = said; next = next })
         unfolding first_bad_loose_top sheet_turn_with says_sweep sheet_files file_text price_left_out
         top_good said next p₅ =
-            let test₅ = passes sheet 4 a₄ at_files (is_number_line files_key) next p₅.0 in
+            let test₅ = passes sheet 4 a₄ at_files_here (is_number_line files_key) next p₅.0 in
             record {
               none = rw (test₁, test₂, test₃, test₄, test₅);
               start = at_turn;
               turn = p₃.1 ∙ ap (λ t. turn_in (line_of t)) at_turn.rest;
-              empty = rw (← at_turn.rest) (price-empty sheet a₂ a₃ p₂.within p₃.0);
-              sweep = p₄.1 ∙ ap (λ t. names_sweep (line_of t)) at_rule.rest;
-              said = p₅.1 ∙ ap (λ t. number_behind files_key (line_of t)) at_files.rest;
-              next = one_more sheet 4 a₄ at_files (is_number_line files_key) next p₅.0;
+              empty = rw (← at_turn.rest) (price_empty sheet a₂ a₃ p₂.within p₃.0);
+              sweep = p₄.1 ∙ ap (λ t. names_sweep (line_of t)) at_rule_here.rest;
+              said = p₅.1 ∙ ap (λ t. number_behind files_key (line_of t)) at_files_here.rest;
+              next = one_more sheet 4 a₄ at_files_here (is_number_line files_key) next p₅.0;
             }
 
 -- The first number of a row that is not 0.
@@ -143,9 +143,9 @@ module _ (sheet : List ℕ) (at files : ℕ) (p : WantsAt sheet at files) where
       unfolding loose_end
       end_is = sym (f.next.rest ∙ rw (wants_many_here, want_here.rest))
 
-      pub text_behind_here : b.next < length sheet → BelowBad sheet (files + b.count + 7)
+      pub text_behind : b.next < length sheet → BelowBad sheet (files + b.count + 7)
       unfolding first_bad_loose_below
-      text_behind_here l =
+      text_behind l =
           let more : is_empty (loose_end sheet) ≡ false = rw (end_is, drop-cons sheet b.next 0 l) in
           let s : 0 < files + b.count + 7 = omega arith in
           record { first = rw (wants_test, more, ← p.count, ← wants_many_here) (first_some_lem (files + b.count + 7) [] s); some = s }

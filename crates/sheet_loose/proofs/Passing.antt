@@ -8,7 +8,7 @@ use lib.ListN.{length, drop, length-append, length-drop}
 use lib.Dec.{eqb}
 use borrow.Author.Tests.{eq-eqb, ne_eqb, eqb-true, eqb-false, not-false}
 use Rattle.refusals.specs.Refusals.{first_where}
-use Rattle.runs.proofs.Search.{first_before, first_all, first-zero, first_none}
+use Rattle.runs.proofs.Search.{first_before, first_all, first_zero, first_none}
 use Rattle.text_bytes.specs.Text.{line_feed, behind, is_empty, is_number, starts_with}
 use Rattle.text_bytes.proofs.Bytes.{and_true_both, begun_long}
 use Rattle.text_lines.specs.declared.NumberLine.{NumberLine}
@@ -18,7 +18,7 @@ use Rattle.sheet_reader.specs.declared.NameLine.{NameLine}
 use Rattle.sheet_reader.specs.declared.RuleLine.{RuleLine}
 use Rattle.sheet_reader.specs.Lines.{turn_key, want_key, is_tape_line, is_turn_line, is_rule_line, names_sweep}
 use Rattle.sheet_reader.specs.Found.{NamePart, NameLineFound, RuleLineFound}
-use Rattle.sheet_reader.proofs.Good.{line-split}
+use Rattle.sheet_reader.proofs.Good.{line_split}
 use Rattle.sheet_loose.specs.Private.{Stands, BlockFound}
 
 -- What the readers of a line answered.
@@ -47,7 +47,7 @@ module _ (sheet : List ℕ) (at : ℕ) (r : RuleLine) (found : RuleLineFound she
 pub line_long : (k : ℕ) (key text : List ℕ) → starts_with (k ∷ key) (line_of text) ≡ true
     → (length text ≡ length (line_of text) + 1 + length (behind line_feed text)) × (suc (length key) ≤ length (line_of text))
 line_long k key text begun =
-    let split = ap length (line-split k key text begun) ∙ length-append (line_of text) (line_feed ∷ behind line_feed text) in
+    let split = ap length (line_split k key text begun) ∙ length-append (line_of text) (line_feed ∷ behind line_feed text) in
     (omega arith, begun_long (k ∷ key) (line_of text) begun)
 
 pub passed_long : (k : ℕ) (key : List ℕ) (test : List ℕ → Bool) (sheet : List ℕ) (at next : ℕ) → at ≤ length sheet → Passed test sheet at next
@@ -131,7 +131,7 @@ wants_long text n none = go n (omega arith)
 
     step : (i : ℕ) → i < n → length (behind line_feed (after_lines i text)) + 6 ≤ length (after_lines i text)
     step i l =
-        let good : is_pair_line want_key (line_after i text) ≡ true = not-false (is_pair_line want_key (line_after i text)) (first-zero bad n none i l) in
+        let good : is_pair_line want_key (line_after i text) ≡ true = not-false (is_pair_line want_key (line_after i text)) (first_zero bad n none i l) in
         let long = line_long 119 (drop 1 want_key) (after_lines i text) (want_begun (line_after i text) good) in
         omega arith
 

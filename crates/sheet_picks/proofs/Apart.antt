@@ -115,8 +115,8 @@ reads_every b (start ∷ row) e = omega (arith, reads_cons 0 b start row, one_in
 
 -- No entry ends beyond the limit where no file does.
 module _ (starts ends : List ℕ) (near : (i : ℕ) → i < length starts → get_or ends i 0 ≤ last_place) where
-  pub entry_near_here : (from first last : ℕ) → EntryFrom starts ends (both_rows starts ends) from first last → last ≤ last_place
-  entry_near_here from first last p = elim (dec_lt (suc first) last) [ yes h ↦ across (p.joined (last - 1) (omega arith) (omega arith)) | no h ↦ omega (arith, p.near) ]
+  pub entry_near : (from first last : ℕ) → EntryFrom starts ends (both_rows starts ends) from first last → last ≤ last_place
+  entry_near from first last p = elim (dec_lt (suc first) last) [ yes h ↦ across (p.joined (last - 1) (omega arith) (omega arith)) | no h ↦ omega (arith, p.near) ]
     where
       across : LiesAcross starts ends (both_rows starts ends) first (last - 1) → last ≤ last_place
       across q = omega (arith, q.behind, near q.which (omega (arith, q.listed)))
@@ -133,7 +133,7 @@ module _ (starts ends : List ℕ) (near : (i : ℕ) → i < length starts → ge
           arith,
           add_up m firsts lasts e.1 n,
           reads_split from f last_place starts e.0.after (omega (arith, e.0.near)),
-          reads_split f m last_place starts (omega (arith, e.0.long)) (entry_near_here from f m e.0),
+          reads_split f m last_place starts (omega (arith, e.0.long)) (entry_near from f m e.0),
           reads_none from f starts (λ i l h. e.0.none i (omega arith) h),
         )
 

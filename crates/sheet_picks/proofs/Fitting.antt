@@ -28,7 +28,7 @@ use Rattle.sheet_picks.specs.Names.{names_text}
 use Rattle.sheet_picks.specs.Writing.{picks_verdict, HandedFor, PicksHanded, PicksWritten}
 use Rattle.sheet_picks.specs.Private.{EntryRows}
 use Rattle.sheet_picks.specs.Promises.{PicksAreOne, Wanted, OnlyHeadOrPrice, nothing, turn_price, head_place, PickedRunsFit, UsualHeadFits, ReadAgain, SheetsReadBack}
-use Rattle.sheet_picks.proofs.InTurn.{in-turn-rows, entries_are_one}
+use Rattle.sheet_picks.proofs.InTurn.{in_turn_rows, entries_are_one}
 use Rattle.sheet_picks.proofs.Apart.{entries_are_apart, entry_near, reads_add_up, reads_some}
 use Rattle.sheet_picks.proofs.Stands.{each_at}
 use Rattle.sheet_picks.proofs.Sheets.{lengths_long, length_at, reads_long, reads_at, last_none, last_some}
@@ -57,7 +57,7 @@ right_none = refl
 
 module _ (starts ends firsts lasts : List ℕ) (p : Wanted starts ends firsts lasts) where
   rows : EntryRows firsts lasts
-  rows = in-turn-rows starts ends 0 firsts lasts p.entries.in_turn
+  rows = in_turn_rows starts ends 0 firsts lasts p.entries.in_turn
 
   at : (i : ℕ) → i < length firsts → EntryAt starts ends (get_or firsts i 0) (get_or lasts i 0)
   at i l = entry_at starts ends 0 firsts lasts p.entries.in_turn i l

@@ -17,7 +17,7 @@ use Rattle.runs.proofs.Search.{or_false_both}
 use Rattle.text_bytes.specs.Text.{is_name}
 use Rattle.text_paths.specs.Paths.{paths_verdict}
 use Rattle.text_pages.specs.Printing.{Wrote, Put}
-use Rattle.text_pages.proofs.Pages.{wrote-page}
+use Rattle.text_pages.proofs.Pages.{wrote_page}
 use Rattle.sheet_writer.specs.Writing.{written_row}
 use Rattle.sheet_writer.proofs.Sheets.{name_length}
 use Rattle.sheet_picks.specs.declared.Picks.{Picks}
@@ -26,7 +26,7 @@ use Rattle.sheet_picks.specs.Sheets.{picked_sheet}
 use Rattle.sheet_picks.specs.Names.{names_text}
 use Rattle.sheet_picks.specs.Writing.{picks_verdict, text_rows_verdict, refused_picks, PicksHanded, HandedFor, PicksWritten}
 use Rattle.sheet_picks.specs.Private.{PathRows, EntryRows, EntriesFilled, Laid, NextAt}
-use Rattle.sheet_picks.proofs.InTurn.{in-turn-rows}
+use Rattle.sheet_picks.proofs.InTurn.{in_turn_rows}
 
 -- 13, then 11 and 5, then 3.
 pub name_bad : (name list : List ℕ) (entries : ℕ) (t : Bool) → t ≡ is_name name → not t ≡ true → refuse_if true BadName ≡ picks_verdict name list entries
@@ -109,10 +109,10 @@ module _ (sheet named out names page page' : List ℕ) (most bytes : ℕ) (w : W
         let o = or_false_both (ltb (length out) (length sheet)) (ltb (length names) (length named)) (accepts_if (ltb (length out) (length sheet) || ltb (length names) (length named)) ShortRow refl passes_rows) in
         (ltb-false (length out) (length sheet) o.0, ltb-false (length names) (length named) o.1)
 
-    pub both_put_here : (out' : List ℕ) (next : ℕ) → Put out 0 (take bytes page') (length (take bytes page')) out' next → (names₂ : List ℕ) (size₂ : ℕ) → Laid true names₁ 0 named names₂ size₂
+    pub both_put : (out' : List ℕ) (next : ℕ) → Put out 0 (take bytes page') (length (take bytes page')) out' next → (names₂ : List ℕ) (size₂ : ℕ) → Laid true names₁ 0 named names₂ size₂
         → (r : Picks) → r ≡ record { refusal = Accepted; place = 0; bytes = bytes; named = size } → PicksHanded (text_rows_verdict sheet named out names) sheet named out names r out' names₂
     unfolding written_row
-    both_put_here out' next p names₂ size₂ q r r-is =
+    both_put out' next p names₂ size₂ q r r-is =
         let fits = no_short in
         let text : take bytes page' ≡ sheet = w.bytes in
         let p' : Put out 0 sheet (length sheet) out' next = subst (λ x. Put out 0 x (length x) out' next) text p in
@@ -124,8 +124,8 @@ module _ (sheet named out names page page' : List ℕ) (most bytes : ℕ) (w : W
         let e₂ : size₂ ≡ length named = omega (arith, wn.after) in
         record {
           answer = r-is ∙ rw (passes_rows, bytes_are, s);
-          sheet_left = wrote-page wo ∙ rw (e₁, passes_rows);
-          names_left = wrote-page wn ∙ rw (e₂, passes_rows);
+          sheet_left = wrote_page wo ∙ rw (e₁, passes_rows);
+          names_left = wrote_page wn ∙ rw (e₂, passes_rows);
         }
 
 -- The whole answer, from the rows of entries.
@@ -157,7 +157,7 @@ module _ (name list starts ends head turn out names : List ℕ) (entries : ℕ) 
     picks_pass = passes name list entries (ap refuses (sym is) ∙ sym says ∙ e)
 
     pub picks_rows : EntryRows (take entries firsts) (take entries lasts)
-    picks_rows = in-turn-rows starts ends 0 (take entries firsts) (take entries lasts) p.entries.in_turn
+    picks_rows = in_turn_rows starts ends 0 (take entries firsts) (take entries lasts) p.entries.in_turn
 
     pub picks_few : length (take entries firsts) ≤ 64
     picks_few = rw entries_are picks_pass.few

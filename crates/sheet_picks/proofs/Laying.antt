@@ -10,11 +10,11 @@ use lib.ListN.{length, get_or, take, drop, length-append, length-drop, drop_of_l
 use lib.Seq.{length-take-le, drop-cons}
 use Rattle.text_bytes.specs.Text.{bytes, comma, line_feed}
 use Rattle.text_pages.specs.Printing.{line, pair_text, Wrote, Put}
-use Rattle.text_pages.proofs.Pages.{wrote-long, wrote-within, wrote_on, wrote-both}
+use Rattle.text_pages.proofs.Pages.{wrote_long, wrote_within, wrote_on, wrote_both}
 use Rattle.text_paths.specs.Paths.{line_count, path_after}
 use Rattle.sheet_picks.specs.Names.{name_line, same_path, is_first_line, lines_where, texts_of, lies_in_entry, name_of_line, names_of_entry, names_onward, names_text}
 use Rattle.sheet_picks.specs.Private.{PathStands, PathRows, EntryRows, first_reads, NextAt, name_head, Laid}
-use Rattle.sheet_picks.proofs.Lines.{reads_first, reads-later}
+use Rattle.sheet_picks.proofs.Lines.{reads_first, reads_later}
 
 -- Nothing laid.
 pub laid_none : (writing : Bool) (row : List ℕ) (at : ℕ) → Laid writing row at [] row at
@@ -58,7 +58,7 @@ module _ (writing : Bool) (row : List ℕ) (at : ℕ) (a row₁ : List ℕ) (at�
         put = λ w l.
             let h = both_fit_here l in
             let s = size in
-            wrote-within (wrote-both (p.put w (omega arith)) (q.put w h.1)) (length (a ++ b)) (omega arith);
+            wrote_within (wrote_both (p.put w (omega arith)) (q.put w h.1)) (length (a ++ b)) (omega arith);
       }
 
 -- The part of a page that a text fills is as long as the text.
@@ -117,10 +117,10 @@ module _ (row : List ℕ) (at number reads : ℕ) (path page page' : List ℕ) (
       let w₃ : Wrote row at (name_line number reads path) (size + (0 + length path + 1)) row₂ at₂ = subst (λ x. Wrote row at x (size + (0 + length path + 1)) row₂ at₂) (name_split number reads path) w₂ in
       let s = line_size in
       record {
-        long = wrote-long w₃ (omega arith);
+        long = wrote_long w₃ (omega arith);
         measured = record { fits = λ _. w₃.after; over = λ h. absurd (omega arith) };
         kept = λ f. absurd (true≢false (sym t ∙ f));
-        put = λ _ _. wrote-within w₃ (length (name_line number reads path)) (omega arith);
+        put = λ _ _. wrote_within w₃ (length (name_line number reads path)) (omega arith);
       }
 
 -- What the names of an entry say of a line.
@@ -148,7 +148,7 @@ module _ (list starts : List ℕ) (number first last i : ℕ) where
       inside = sym told ∙ borrow.Author.Tests.not-false t in-it
 
       pub laid_later : reads ≡ 0 → Laid writing row at (name_of_line list starts number first last i) row at
-      laid_later z = rw (no_name_later inside (reads-later list i l reads r z)) (laid_none writing row at)
+      laid_later z = rw (no_name_later inside (reads_later list i l reads r z)) (laid_none writing row at)
 
       pub laid_name : (reads ≡ 0 → ⊥) → (from end : ℕ) → PathStands list from end i → (row' : List ℕ) (next : ℕ)
           → Laid writing row at (name_line number reads (take (end - from) (drop from list))) row' next → Laid writing row at (name_of_line list starts number first last i) row' next

@@ -10,7 +10,7 @@ use lib.ListN.{length, get_or, take, drop, get_or-eq_default}
 use lib.Dec.{eqb, ltb, leb}
 use borrow.Author.Tests.{eq-eqb, ne_eqb, lt-ltb, ltb-true, lt-leb, le-leb}
 use Rattle.refusals.specs.Refusals.{first_where, one_more}
-use Rattle.runs.proofs.Search.{below_or_here, first-here, first_all}
+use Rattle.runs.proofs.Search.{below_or_here, first_here, first_all}
 use Rattle.text_bytes.specs.Text.{is_text, starts_with}
 use Rattle.text_bytes.proofs.Bytes.{and_true_both}
 use Rattle.text_paths.specs.Paths.{line_count, path_after}
@@ -61,7 +61,7 @@ module _ (list : List ℕ) (i reads h : ℕ) (p : ReadsSeen list i reads h) wher
       here s b true told late = absurd (true≢false (sym (lt-ltb h i (omega arith)) ∙ late))
 
   first_found : same_path list i h ≡ true → h < i → first_where (same_path list i) (suc i) ≡ h + 1
-  first_found t l = first-here (same_path list i) h (suc i) (first_all (same_path list i) h (λ g m. p.none g m (omega arith))) t (omega arith)
+  first_found t l = first_here (same_path list i) h (suc i) (first_all (same_path list i) h (λ g m. p.none g m (omega arith))) t (omega arith)
 
   pub seen_earlier : (t : Bool) → t ≡ same_path list i h → (t && ltb h i) ≡ true → 0 ≡ first_reads list i
   seen_earlier t told e =
@@ -72,7 +72,7 @@ module _ (list : List ℕ) (i reads h : ℕ) (p : ReadsSeen list i reads h) wher
   is_first : i < h → is_first_line list i ≡ true
   is_first l =
       eq-eqb (first_where (same_path list i) (suc i)) (suc i)
-      (first-here (same_path list i) i (suc i) (first_all (same_path list i) i (λ g m. p.none g (omega arith) m)) (same_itself list i) (omega arith) ∙ add-one i)
+      (first_here (same_path list i) i (suc i) (first_all (same_path list i) i (λ g m. p.none g (omega arith) m)) (same_itself list i) (omega arith) ∙ add-one i)
 
   pub seen_all : i < line_count list → line_count list ≤ h → reads ≡ first_reads list i
   seen_all l m =
@@ -90,8 +90,8 @@ where_some kind (suc n) i l e = ⊎_elim (λ s. rw (← s, e) (omega arith)) (λ
     more false m = m
 
 module _ (list : List ℕ) (i : ℕ) (l : i < line_count list) where
-  pub reads_some_here : is_first_line list i ≡ true → 0 < lines_where (same_path list i) (line_count list)
-  reads_some_here e = where_some (same_path list i) (line_count list) i l (same_itself list i)
+  pub reads_some : is_first_line list i ≡ true → 0 < lines_where (same_path list i) (line_count list)
+  reads_some e = where_some (same_path list i) (line_count list) i l (same_itself list i)
 
   pub reads_first : (r : ℕ) → r ≡ first_reads list i → (r ≡ 0 → ⊥) → (is_first_line list i ≡ true) × (r ≡ lines_where (same_path list i) (line_count list))
   reads_first r e n = go (is_first_line list i) refl
@@ -104,7 +104,7 @@ module _ (list : List ℕ) (i : ℕ) (l : i < line_count list) where
   reads_later r e n = go (is_first_line list i) refl
     where
       go : (t : Bool) → is_first_line list i ≡ t → is_first_line list i ≡ false
-      go true h = let s : r ≡ lines_where (same_path list i) (line_count list) = e ∙ rw h in absurd (omega (arith, reads_some_here h))
+      go true h = let s : r ≡ lines_where (same_path list i) (line_count list) = e ∙ rw h in absurd (omega (arith, reads_some h))
       go false h = h
 
 -- A start of a row, and whether it lies in an entry.

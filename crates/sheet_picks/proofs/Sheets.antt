@@ -9,7 +9,7 @@ use Rattle.runs.specs.Alone.{zeros}
 use Rattle.text_lines.specs.Lines.{each_of}
 use Rattle.text_lines.proofs.Filling.{length_each}
 use Rattle.text_pages.specs.Printing.{number_line, pair_line, pair_lines, triple_line, triple_lines, Wrote, Put}
-use Rattle.text_pages.proofs.Pages.{wrote-long, wrote-within, wrote_on, wrote-both, LinesPut, line_put, lines-put, pairs-left, pairs-over, triples-left, triples-over}
+use Rattle.text_pages.proofs.Pages.{wrote_long, wrote_within, wrote_on, wrote_both, LinesPut, line_put, lines_put, pairs_left, pairs_over, triples_left, triples_over}
 use Rattle.sheet_reader.specs.Lines.{file_key, wants_key, want_key}
 use Rattle.sheet_writer.specs.Writing.{top_text, sheet_text}
 use Rattle.tape_entries.specs.Entries.{reads_of_entry}
@@ -80,7 +80,7 @@ module _ (page₀ : List ℕ) (at : ℕ) (firsts lasts : List ℕ) (rows : Entry
 
   file_left : i < length firsts → file_lines firsts lasts i ≡ triple_line file_key (get_or firsts i 0) (get_or lasts i 0 - get_or firsts i 0) 0 ++ file_lines firsts lasts (i + 1)
   file_left l =
-      triples-left file_key firsts (entry_lengths firsts lasts) (lengths_long firsts lasts rows.even) i (zeros (length firsts)) zeros_long_here l
+      triples_left file_key firsts (entry_lengths firsts lasts) (lengths_long firsts lasts rows.even) i (zeros (length firsts)) zeros_long_here l
       ∙ rw (length_at firsts lasts i l (omega (arith, rows.even)), get_or-replicate {A = ℕ} (length firsts) i 0 0 l)
 
   pub file_put : i < length firsts → (length' : ℕ) → length' ≡ get_or lasts i 0 - get_or firsts i 0 → (page' : List ℕ) (last : ℕ)
@@ -90,8 +90,8 @@ module _ (page₀ : List ℕ) (at : ℕ) (firsts lasts : List ℕ) (rows : Entry
 
   pub files_put : length firsts ≤ i → Wrote page₀ at (file_lines firsts lasts 0) (length firsts * 68) page next
   files_put l =
-      lines-put page₀ at 68 (file_lines firsts lasts 0) (length firsts) room _ page next i p l
-      (triples-over file_key firsts (entry_lengths firsts lasts) (lengths_long firsts lasts rows.even) i (zeros (length firsts)) zeros_long_here l)
+      lines_put page₀ at 68 (file_lines firsts lasts 0) (length firsts) room _ page next i p l
+      (triples_over file_key firsts (entry_lengths firsts lasts) (lengths_long firsts lasts rows.even) i (zeros (length firsts)) zeros_long_here l)
 
 -- The want lines that are left, and one of them put.
 abbrev pub want_lines : List ℕ → List ℕ → List ℕ → ℕ → List ℕ
@@ -104,7 +104,7 @@ module _ (page₀ : List ℕ) (at : ℕ) (starts firsts lasts : List ℕ) (rows 
 
   want_left : i < length firsts → want_lines starts firsts lasts i ≡ pair_line want_key (i + 1) (reads_of_entry (get_or firsts i 0) (get_or lasts i 0) starts) ++ want_lines starts firsts lasts (i + 1)
   want_left l =
-      pairs-left want_key (each_of suc (length firsts)) (entry_reads starts firsts lasts) wants_even_here i (omega (arith, length_each suc (length firsts)))
+      pairs_left want_key (each_of suc (length firsts)) (entry_reads starts firsts lasts) wants_even_here i (omega (arith, length_each suc (length firsts)))
       ∙ rw (each_at suc (length firsts) i l, reads_at starts firsts lasts i l (omega (arith, rows.even)), add-one)
 
   pub want_put : i < length firsts → (reads : ℕ) → reads ≡ reads_of_entry (get_or firsts i 0) (get_or lasts i 0) starts → (page' : List ℕ) (last : ℕ)
@@ -113,26 +113,26 @@ module _ (page₀ : List ℕ) (at : ℕ) (starts firsts lasts : List ℕ) (rows 
 
   pub wants_put : length firsts ≤ i → Wrote page₀ at (want_lines starts firsts lasts 0) (length firsts * 47) page next
   wants_put l =
-      lines-put page₀ at 47 (want_lines starts firsts lasts 0) (length firsts) room _ page next i p l
-      (pairs-over want_key (each_of suc (length firsts)) (entry_reads starts firsts lasts) wants_even_here i (omega (arith, length_each suc (length firsts))))
+      lines_put page₀ at 47 (want_lines starts firsts lasts 0) (length firsts) room _ page next i p l
+      (pairs_over want_key (each_of suc (length firsts)) (entry_reads starts firsts lasts) wants_even_here i (omega (arith, length_each suc (length firsts))))
 
 -- The whole sheet, part by part.
 module _ (name starts firsts lasts head turn : List ℕ) (few : length firsts ≤ 64) (page : List ℕ) (room : sheet_most ≤ length page) (place price : ℕ)
     (page₁ : List ℕ) (at₁ : ℕ) (top : Wrote page 0 (top_text name place price (length firsts)) 112 page₁ at₁) where
   pub files_room : at₁ + length firsts * 68 ≤ length page₁
-  files_room = omega (arith, wrote-long top (omega arith), top.within)
+  files_room = omega (arith, wrote_long top (omega arith), top.within)
 
   module _ (page₂ : List ℕ) (at₂ : ℕ) (files : Wrote page₁ at₁ (file_lines firsts lasts 0) (length firsts * 68) page₂ at₂) (page₃ : List ℕ) (at₃ : ℕ)
       (number : Put page₂ at₂ (number_line wants_key (length firsts)) 27 page₃ at₃) where
     three : Wrote page 0 (top_text name place price (length firsts) ++ file_lines firsts lasts 0 ++ number_line wants_key (length firsts)) (112 + length firsts * 68 + 27) page₃ at₃
-    three = wrote_on (wrote-both top files) (omega arith) number
+    three = wrote_on (wrote_both top files) (omega arith) number
 
     pub wants_room : at₃ + length firsts * 47 ≤ length page₃
-    wants_room = omega (arith, wrote-long three (omega arith), three.within)
+    wants_room = omega (arith, wrote_long three (omega arith), three.within)
 
     pub sheet_put : place ≡ given_or (last_or 0 lasts) head → price ≡ given_or 12000 turn → (page₄ : List ℕ) (at₄ : ℕ)
         → Wrote page₃ at₃ (want_lines starts firsts lasts 0) (length firsts * 47) page₄ at₄ → Wrote page 0 (picked_sheet name starts firsts lasts head turn) sheet_most page₄ at₄
     unfolding picked_sheet picked_run sheet_text
     sheet_put h t page₄ at₄ wants =
-        let all = wrote-within (wrote-both three wants) sheet_most (omega arith) in
+        let all = wrote_within (wrote_both three wants) sheet_most (omega arith) in
         rw (← h, ← t, length_each suc (length firsts)) all

@@ -121,14 +121,14 @@ module _ (sheet : List ℕ) (judged : Judged) (found : JudgedFound sheet judged)
     parts = found.out (all_accept (judged.verdict ∷ retired ∷ []) files_pass.0).0
 
     -- Each row has room for its lines.
-    wants_room : (ltb (length numbers) judged.wants ≡ false) × (ltb (length counts) judged.wants ≡ false)
-    wants_room = or_false_both (ltb (length numbers) judged.wants) (ltb (length counts) judged.wants) wants_pass.1
+    wants_room_here : (ltb (length numbers) judged.wants ≡ false) × (ltb (length counts) judged.wants ≡ false)
+    wants_room_here = or_false_both (ltb (length numbers) judged.wants) (ltb (length counts) judged.wants) wants_pass.1
 
-    files_room : (short_pair_rows judged.top.files starts lengths ≡ false) × (ltb (length aggregates) judged.top.files ≡ false)
-    files_room = or_false_both (short_pair_rows judged.top.files starts lengths) (ltb (length aggregates) judged.top.files) files_pass.1
+    files_room_here : (short_pair_rows judged.top.files starts lengths ≡ false) × (ltb (length aggregates) judged.top.files ≡ false)
+    files_room_here = or_false_both (short_pair_rows judged.top.files starts lengths) (ltb (length aggregates) judged.top.files) files_pass.1
 
     pair_room : (ltb (length starts) judged.top.files ≡ false) × (ltb (length lengths) judged.top.files ≡ false)
-    pair_room = or_false_both (ltb (length starts) judged.top.files) (ltb (length lengths) judged.top.files) files_room.0
+    pair_room = or_false_both (ltb (length starts) judged.top.files) (ltb (length lengths) judged.top.files) files_room_here.0
 
   module _ (m : ℕ) (m-is : m ≡ lines_filled v judged.top.files) where
     pub files_ready : TriplesReady file_key sheet judged.top.next m starts lengths aggregates
@@ -138,7 +138,7 @@ module _ (sheet : List ℕ) (judged : Judged) (found : JudgedFound sheet judged)
           none = lines_ready v judged.top.files m m-is (is_triple_line file_key) (drop judged.top.next sheet) (λ e. rw ((parts e).upper.files, (parts e).upper.rest) (parts e).below.filed);
           room = row_ready v judged.top.files m m-is starts (λ e. (pair_room e).0);
           space = row_ready v judged.top.files m m-is lengths (λ e. (pair_room e).1);
-          more = row_ready v judged.top.files m m-is aggregates (λ e. (files_room e).1);
+          more = row_ready v judged.top.files m m-is aggregates (λ e. (files_room_here e).1);
         }
 
     module _ (n : ℕ) (n-is : n ≡ lines_filled v judged.wants) where
@@ -146,8 +146,8 @@ module _ (sheet : List ℕ) (judged : Judged) (found : JudgedFound sheet judged)
       wants_ready =
           record {
             none = lines_ready v judged.wants n n-is (is_pair_line want_key) (drop judged.at sheet) (λ e. rw ((parts e).below.count, (parts e).below.rest) (parts e).below.wanted);
-            room = row_ready v judged.wants n n-is numbers (λ e. (wants_room e).0);
-            space = row_ready v judged.wants n n-is counts (λ e. (wants_room e).1);
+            room = row_ready v judged.wants n n-is numbers (λ e. (wants_room_here e).0);
+            space = row_ready v judged.wants n n-is counts (λ e. (wants_room_here e).1);
           }
 
       answer_read : reading_of v judged.top judged.wants ≡ read_answer v sheet
@@ -158,11 +158,11 @@ module _ (sheet : List ℕ) (judged : Judged) (found : JudgedFound sheet judged)
           go true e = rw e
           go false e = let p = parts e in rw (e, ← p.upper.head, ← p.upper.turn, ← p.upper.files, ← p.below.count)
 
-      abbrev file-lines : List ℕ
-      file-lines = drop judged.top.next sheet
+      abbrev file_lines_lem : List ℕ
+      file_lines_lem = drop judged.top.next sheet
 
       pub sheet_read : (r : Reading) (starts' lengths' aggregates' numbers' counts' : List ℕ) → r ≡ reading_of v judged.top judged.wants
-          → (starts' ≡ filled_row (first_in file_key) file-lines m starts) × ((lengths' ≡ filled_row (middle_in file_key) file-lines m lengths) × (aggregates' ≡ filled_row (third_in file_key) file-lines m aggregates))
+          → (starts' ≡ filled_row (first_in file_key) file_lines_lem m starts) × ((lengths' ≡ filled_row (middle_in file_key) file_lines_lem m lengths) × (aggregates' ≡ filled_row (third_in file_key) file_lines_lem m aggregates))
           → PairsRead want_key sheet judged.at n numbers counts numbers' counts'
           → SheetRead sheet (run_rows starts lengths aggregates numbers counts) r (run_rows starts' lengths' aggregates' numbers' counts')
       unfolding read_answer

@@ -114,23 +114,23 @@ module _ (sheet : List ℕ) (good : refuses (sheet_verdict sheet) ≡ false) whe
 
 -- A line that begins with a key has its LF: it is what stands before that, and no LF stands in it.
 module _ (k : ℕ) (key text : List ℕ) (begun : starts_with (k ∷ key) (line_of text) ≡ true) where
-  line_ends : has line_feed text ≡ true
+  line_ends_here : has line_feed text ≡ true
   unfolding line_of starts_with
-  line_ends = go (has line_feed text) refl
+  line_ends_here = go (has line_feed text) refl
     where
       go : (b : Bool) → has line_feed text ≡ b → has line_feed text ≡ true
       go true e = e
       go false e = absurd (true≢false (sym begun ∙ rw e))
 
-  line_is : line_of text ≡ before line_feed text
+  line_is_here : line_of text ≡ before line_feed text
   unfolding line_of
-  line_is = rw line_ends
+  line_is_here = rw line_ends_here
 
   pub line_split : text ≡ line_of text ++ (line_feed ∷ behind line_feed text)
-  line_split = rw line_is (split_at line_feed text line_ends)
+  line_split = rw line_is_here (split_at line_feed text line_ends_here)
 
   pub line_flat : has line_feed (line_of text) ≡ false
-  line_flat = rw line_is (none_before line_feed text)
+  line_flat = rw line_is_here (none_before line_feed text)
 
 -- The first three lines begin with their keys.
 module _ (sheet : List ℕ) (good : refuses (sheet_verdict sheet) ≡ false) where
@@ -142,6 +142,6 @@ module _ (sheet : List ℕ) (good : refuses (sheet_verdict sheet) ≡ false) whe
   unfolding is_number_line
   head_begun = (and_true_both (starts_with head_key (line_after 1 sheet)) (is_number (value_text head_key (line_after 1 sheet))) (good_lines sheet good).head).0
 
-  pub turn_begun_here : starts_with turn_key (line_after 2 sheet) ≡ true
+  pub turn_begun : starts_with turn_key (line_after 2 sheet) ≡ true
   unfolding is_turn_line
-  turn_begun_here = (and_true_both (starts_with turn_key (line_after 2 sheet)) _ (good_lines sheet good).turn).0
+  turn_begun = (and_true_both (starts_with turn_key (line_after 2 sheet)) _ (good_lines sheet good).turn).0

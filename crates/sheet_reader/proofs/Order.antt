@@ -52,9 +52,9 @@ unfolding is_count_line
 count_small key most line e = leb-true (number_behind key line) most (and_true_both (is_number_line key line) (leb (number_behind key line) most) e).1
 
 module _ (sheet : List ℕ) (r₁ : NameLine) (f₁ : NameLineFound sheet r₁) where
-  pub tape_bad_here : r₁ ≡ NameLine.Bad → TopBad sheet 1
+  pub tape_bad : r₁ ≡ NameLine.Bad → TopBad sheet 1
   unfolding first_bad_top after_lines
-  tape_bad_here e = record { first = rw (subst (λ r. NameLineFound sheet r) e f₁); some = omega arith }
+  tape_bad e = record { first = rw (subst (λ r. NameLineFound sheet r) e f₁); some = omega arith }
 
   module _ (end at₁ : ℕ) (e₁ : r₁ ≡ NameLine.Name end at₁) where
     named : Passed is_tape_line sheet 0 at₁ × NamePart sheet end
@@ -103,21 +103,21 @@ module _ (sheet : List ℕ) (r₁ : NameLine) (f₁ : NameLineFound sheet r₁) 
             at_rule = one_more sheet 2 at₂ at_turn is_turn_line at₃ turn_read.0
 
             module _ (r₄ : RuleLine) (f₄ : RuleLineFound sheet at₃ r₄) where
-              pub rule_bad_here : r₄ ≡ RuleLine.Bad → TopBad sheet 4
+              pub rule_bad : r₄ ≡ RuleLine.Bad → TopBad sheet 4
               unfolding first_bad_top
-              rule_bad_here e =
+              rule_bad e =
                   let bad = fails sheet 3 at₃ at_rule is_rule_line (subst (λ r. RuleLineFound sheet at₃ r) e f₄) in
                   record { first = rw (test₁, test₂, test₃, bad); some = omega arith }
 
               module _ (sweep : Bool) (at₄ : ℕ) (e₄ : r₄ ≡ RuleLine.Value sweep at₄) where
-                rule_read : Passed is_rule_line sheet at₃ at₄ × (sweep ≡ names_sweep (line_of (drop at₃ sheet)))
-                rule_read = subst (λ r. RuleLineFound sheet at₃ r) e₄ f₄
+                rule_read_here : Passed is_rule_line sheet at₃ at₄ × (sweep ≡ names_sweep (line_of (drop at₃ sheet)))
+                rule_read_here = subst (λ r. RuleLineFound sheet at₃ r) e₄ f₄
 
                 test₄ : is_rule_line (line_after 3 sheet) ≡ true
-                test₄ = passes sheet 3 at₃ at_rule is_rule_line at₄ rule_read.0
+                test₄ = passes sheet 3 at₃ at_rule is_rule_line at₄ rule_read_here.0
 
                 pub at_files : Reached sheet 4 at₄
-                at_files = one_more sheet 3 at₃ at_rule is_rule_line at₄ rule_read.0
+                at_files = one_more sheet 3 at₃ at_rule is_rule_line at₄ rule_read_here.0
 
                 module _ (r₅ : NumberLine) (f₅ : NumberLineFound (is_count_line files_key most_sheet_files) (number_behind files_key) sheet at₄ r₅) where
                   pub files_bad : r₅ ≡ NumberLine.Bad → TopBad sheet 5
@@ -139,7 +139,7 @@ module _ (sheet : List ℕ) (r₁ : NameLine) (f₁ : NameLineFound sheet r₁) 
                         name = named.1;
                         head = head_read.1 ∙ ap (λ t. number_behind head_key (line_of t)) at_head.rest;
                         turn = turn_read.1 ∙ ap (λ t. turn_in (line_of t)) at_turn.rest;
-                        sweep = rule_read.1 ∙ ap (λ t. names_sweep (line_of t)) at_rule.rest;
+                        sweep = rule_read_here.1 ∙ ap (λ t. names_sweep (line_of t)) at_rule.rest;
                         files = count;
                         few = rw count (count_small files_key most_sheet_files (line_after 4 sheet) test₅);
                         within = past.within;
@@ -201,8 +201,8 @@ module _ (sheet : List ℕ) (at files : ℕ) (p : WantsAt sheet at files) (r : N
     unfolding sheet_wants
     wants_count = wants_read.1 ∙ ap (λ t. number_behind wants_key (line_of t)) p.rest
 
-    pub wants_few_here : wants ≤ most_wants
-    wants_few_here = rw wants_read.1 (count_small wants_key most_wants (line_of (drop at sheet)) wants_read.0.good)
+    pub wants_few : wants ≤ most_wants
+    wants_few = rw wants_read.1 (count_small wants_key most_wants (line_of (drop at sheet)) wants_read.0.good)
 
     wants_rest : drop next sheet ≡ want_text sheet
     unfolding want_text after_lines
@@ -217,28 +217,28 @@ module _ (sheet : List ℕ) (at files : ℕ) (p : WantsAt sheet at files) (r : N
         record { first = rw (p.none, wants_test, bad, ← p.count, shifted_some (files + 6) line some, first_skip, first_skip, first_some_lem (files + 6 + line)); some = l }
 
     module _ (last : ℕ) (b : LinesPassed (is_pair_line want_key) sheet next wants last) where
-      wants_none : first_bad_of (is_pair_line want_key) (sheet_wants sheet) (want_text sheet) ≡ 0
-      wants_none = rw (← wants_count, ← wants_rest) b.none
+      wants_none_here : first_bad_of (is_pair_line want_key) (sheet_wants sheet) (want_text sheet) ≡ 0
+      wants_none_here = rw (← wants_count, ← wants_rest) b.none
 
       end_is : end_text sheet ≡ drop last sheet
       unfolding end_text
       end_is = sym (b.rest ∙ rw (wants_count, wants_rest))
 
-      pub text_behind_here : last < length sheet → BelowBad sheet (files + wants + 7)
+      pub text_behind : last < length sheet → BelowBad sheet (files + wants + 7)
       unfolding first_bad_below
-      text_behind_here l =
+      text_behind l =
           let more : is_empty (end_text sheet) ≡ false = rw (end_is, drop-cons sheet last 0 l) in
           let s : 0 < files + wants + 7 = omega arith in
-          record { first = rw (p.none, wants_test, wants_none, more, ← p.count, ← wants_count, first_skip, first_skip, first_skip, first_some_lem (files + wants + 7)); some = s }
+          record { first = rw (p.none, wants_test, wants_none_here, more, ← p.count, ← wants_count, first_skip, first_skip, first_skip, first_some_lem (files + wants + 7)); some = s }
 
       pub below_good : length sheet ≤ last → BelowIs sheet wants next
       unfolding first_bad_below
       below_good l =
           let none : is_empty (end_text sheet) ≡ true = rw (end_is, drop_of_length-le sheet l) in
           record {
-            none = rw (p.none, wants_test, wants_none, none);
+            none = rw (p.none, wants_test, wants_none_here, none);
             filed = p.none;
-            wanted = wants_none;
+            wanted = wants_none_here;
             count = wants_count;
             within = wants_within;
             rest = wants_rest;

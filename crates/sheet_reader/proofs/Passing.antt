@@ -17,7 +17,7 @@ use Rattle.text_bytes.specs.Found.{NumberFound}
 use Rattle.text_lines.specs.Lines.{line_of, value_text, is_number_line, number_behind}
 use Rattle.text_lines.specs.Found.{ValueFound, Passed, NumberLineFound}
 use Rattle.text_lines.proofs.Determined.{place_determined}
-use Rattle.text_lines.proofs.Passing.{unkeyed, unkeyed-line, value-at, line-passed, some_text, no_text, no_number, number_is}
+use Rattle.text_lines.proofs.Passing.{unkeyed, unkeyed_line, value_at, line_passed, some_text, no_text, no_number, number_is}
 use Rattle.sheet_reader.specs.Lines.{tape_key, turn_key, rule_key, least_text, sweep_text, is_tape_line, is_count_line, is_turn_line, turn_with, empty_turn, turn_in, is_rule_line, names_sweep}
 use Rattle.sheet_reader.specs.Found.{NamePart, NameLineFound, RuleLineFound}
 use Rattle.sheet_reader.specs.Private.{least_line}
@@ -28,7 +28,7 @@ module _ (sheet : List ℕ) (at : ℕ) (r : Keyed) (found : ValueFound turn_key 
   unfolding is_turn_line turn_with
   turn_line_empty d =
       let none = no_text turn_key sheet at r found from end e d in
-      (line-passed turn_key sheet at r found from end e is_turn_line (rw ((value-at turn_key sheet at r found from end e).begun, none)), rw none)
+      (line_passed turn_key sheet at r found from end e is_turn_line (rw ((value_at turn_key sheet at r found from end e).begun, none)), rw none)
 
   module _ (some : from ≡ end → ⊥) (q : Number) (reads : NumberFound (take (end - from) (drop from sheet)) q) where
     pub turn_line_bad : q ≡ Number.Bad → is_turn_line (line_of (drop at sheet)) ≡ false
@@ -41,7 +41,7 @@ module _ (sheet : List ℕ) (at : ℕ) (r : Keyed) (found : ValueFound turn_key 
     turn_line_good n f =
         let is = number_is turn_key sheet at r found from end e q reads n f in
         let text = some_text turn_key sheet at r found from end e some in (
-          line-passed turn_key sheet at r found from end e is_turn_line (rw ((value-at turn_key sheet at r found from end e).begun, text, is.good)),
+          line_passed turn_key sheet at r found from end e is_turn_line (rw ((value_at turn_key sheet at r found from end e).begun, text, is.good)),
           rw text is.value,
         )
 
@@ -49,27 +49,27 @@ module _ (sheet : List ℕ) (at : ℕ) (r : Keyed) (found : ValueFound turn_key 
 module _ (sheet : List ℕ) (at : ℕ) (r : Keyed) (found : ValueFound rule_key sheet at r) (from end : ℕ) (e : r ≡ Keyed.Text from end)
     (s : Bool) (sweeps : s ≡ is_text sweep_text (take (end - from) (drop from sheet))) where
   rule_begun : starts_with rule_key (line_of (drop at sheet)) ≡ true
-  rule_begun = (value-at rule_key sheet at r found from end e).begun
+  rule_begun = (value_at rule_key sheet at r found from end e).begun
 
   sweep_is : is_text sweep_text (value_text rule_key (line_of (drop at sheet))) ≡ s
-  sweep_is = ap (is_text sweep_text) (sym (value-at rule_key sheet at r found from end e).value) ∙ sym sweeps
+  sweep_is = ap (is_text sweep_text) (sym (value_at rule_key sheet at r found from end e).value) ∙ sym sweeps
 
   pub rule_line_sweep : s ≡ true → Passed is_rule_line sheet at (end + 1) × (true ≡ names_sweep (line_of (drop at sheet)))
   unfolding is_rule_line names_sweep
   rule_line_sweep f =
-      (line-passed rule_key sheet at r found from end e is_rule_line (rw (sweep_is ∙ f, rule_begun)), rw (rule_begun, sweep_is ∙ f))
+      (line_passed rule_key sheet at r found from end e is_rule_line (rw (sweep_is ∙ f, rule_begun)), rw (rule_begun, sweep_is ∙ f))
 
   abbrev rule : List ℕ
   rule = take (end - from) (drop from sheet)
 
   module _ (l : Bool) (leasts : l ≡ is_text least_text rule) where
     least_is_here : is_text least_text (value_text rule_key (line_of (drop at sheet))) ≡ l
-    least_is_here = ap (is_text least_text) (sym (value-at rule_key sheet at r found from end e).value) ∙ sym leasts
+    least_is_here = ap (is_text least_text) (sym (value_at rule_key sheet at r found from end e).value) ∙ sym leasts
 
     rule_line_least : s ≡ false → l ≡ true → Passed is_rule_line sheet at (end + 1) × (false ≡ names_sweep (line_of (drop at sheet)))
     unfolding is_rule_line names_sweep
     rule_line_least f g =
-        (line-passed rule_key sheet at r found from end e is_rule_line (rw (sweep_is ∙ f, least_is_here ∙ g, rule_begun)), rw (rule_begun, sweep_is ∙ f))
+        (line_passed rule_key sheet at r found from end e is_rule_line (rw (sweep_is ∙ f, least_is_here ∙ g, rule_begun)), rw (rule_begun, sweep_is ∙ f))
 
     rule_line_bad : s ≡ false → l ≡ false → is_rule_line (line_of (drop at sheet)) ≡ false
     unfolding is_rule_line
@@ -85,11 +85,11 @@ module _ (sheet : List ℕ) (at : ℕ) (r : Keyed) (found : ValueFound rule_key 
 -- A line without its key is not as described.
 pub unkeyed_turn : (text : List ℕ) → (has line_feed text && starts_with turn_key (line_of text)) ≡ false → is_turn_line (line_of text) ≡ false
 unfolding is_turn_line
-unkeyed_turn text none = rw (unkeyed-line turn_key text none (omega arith))
+unkeyed_turn text none = rw (unkeyed_line turn_key text none (omega arith))
 
 pub unkeyed_rule : (text : List ℕ) → (has line_feed text && starts_with rule_key (line_of text)) ≡ false → is_rule_line (line_of text) ≡ false
 unfolding is_rule_line
-unkeyed_rule text none = rw (unkeyed-line rule_key text none (omega arith))
+unkeyed_rule text none = rw (unkeyed_line rule_key text none (omega arith))
 
 -- A number of lines to follow.
 module _ (key : List ℕ) (most : ℕ) (sheet : List ℕ) (at : ℕ) (r : NumberLine) (found : NumberLineFound (is_number_line key) (number_behind key) sheet at r) where
@@ -115,11 +115,11 @@ module _ (key : List ℕ) (most : ℕ) (sheet : List ℕ) (at : ℕ) (r : Number
 module _ (sheet : List ℕ) (r : Keyed) (found : ValueFound tape_key sheet 0 r) where
   pub tape_line_unkeyed : r ≡ Keyed.Bad → is_tape_line (line_of sheet) ≡ false
   unfolding is_tape_line
-  tape_line_unkeyed e = rw (unkeyed-line tape_key sheet (unkeyed tape_key sheet 0 r found e) (omega arith))
+  tape_line_unkeyed e = rw (unkeyed_line tape_key sheet (unkeyed tape_key sheet 0 r found e) (omega arith))
 
   module _ (from end : ℕ) (e : r ≡ Keyed.Text from end) (t : Bool) (named : t ≡ is_name (take (end - from) (drop from sheet))) where
     name_is : is_name (value_text tape_key (line_of sheet)) ≡ t
-    name_is = ap is_name (sym (value-at tape_key sheet 0 r found from end e).value) ∙ sym named
+    name_is = ap is_name (sym (value_at tape_key sheet 0 r found from end e).value) ∙ sym named
 
     pub tape_line_bad : t ≡ false → is_tape_line (line_of sheet) ≡ false
     unfolding is_tape_line
@@ -128,7 +128,7 @@ module _ (sheet : List ℕ) (r : Keyed) (found : ValueFound tape_key sheet 0 r) 
     pub tape_line_good : t ≡ true → Passed is_tape_line sheet 0 (end + 1) × NamePart sheet end
     unfolding is_tape_line
     tape_line_good f =
-        let v = value-at tape_key sheet 0 r found from end e in
+        let v = value_at tape_key sheet 0 r found from end e in
         let five : from ≡ length tape_key = v.start ∙ omega arith in (
           record { good = rw (name_is ∙ f, v.begun); within = omega arith; rest = v.rest },
           record { ordered = omega arith; within = omega arith; name = subst (λ n. take (end - n) (drop n sheet) ≡ value_text tape_key (line_of sheet)) five v.value },

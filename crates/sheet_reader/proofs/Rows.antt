@@ -5,8 +5,8 @@ use mathlib.Core.List.{List}
 use lib.ListN.{length, drop, set}
 use Rattle.text_lines.specs.Found.{TripleAt}
 use Rattle.sheet_reader.specs.Private.{TriplesReady}
-use Rattle.text_lines.proofs.Passing.{LinesSeen, lines_none, line-seen}
-use Rattle.text_lines.proofs.Filling.{row_long, row-filled, row_more}
+use Rattle.text_lines.proofs.Passing.{LinesSeen, lines_none, line_seen}
+use Rattle.text_lines.proofs.Filling.{row_long, row_filled, row_more}
 use Rattle.text_lines.specs.Lines.{line_of, first_in, is_triple_line, middle_in, third_in, each_of, filled_row}
 -- How long a row of values is, for those above.
 pub use Rattle.text_lines.proofs.Filling.{length_each}
@@ -35,10 +35,10 @@ module _ (key sheet : List ℕ) (at count : ℕ) (firsts₀ seconds₀ thirds₀
 
     pub filled₃ : count ≤ i → (firsts ≡ filled_row (first_in key) (drop at sheet) count firsts₀) × ((seconds ≡ filled_row (middle_in key) (drop at sheet) count seconds₀) × (thirds ≡ filled_row (third_in key) (drop at sheet) count thirds₀))
     filled₃ l = (
-      row-filled (first_in key) (drop at sheet) firsts₀ count ready.room i p.seen.few firsts p.left l,
+      row_filled (first_in key) (drop at sheet) firsts₀ count ready.room i p.seen.few firsts p.left l,
       (
-        row-filled (middle_in key) (drop at sheet) seconds₀ count ready.space i p.seen.few seconds p.middle l,
-        row-filled (third_in key) (drop at sheet) thirds₀ count ready.more i p.seen.few thirds p.right l,
+        row_filled (middle_in key) (drop at sheet) seconds₀ count ready.space i p.seen.few seconds p.middle l,
+        row_filled (third_in key) (drop at sheet) thirds₀ count ready.more i p.seen.few thirds p.right l,
       ),
     )
 
@@ -47,7 +47,7 @@ module _ (key sheet : List ℕ) (at count : ℕ) (firsts₀ seconds₀ thirds₀
     triple_filled l a b c after q =
         let line = ap line_of p.seen.rest in
         record {
-          seen = line-seen (is_triple_line key) sheet at count next i p.seen l after q.passed;
+          seen = line_seen (is_triple_line key) sheet at count next i p.seen l after q.passed;
           left = row_more (first_in key) (drop at sheet) firsts₀ count ready.room i p.seen.few firsts p.left l a (q.left ∙ ap (first_in key) line);
           middle = row_more (middle_in key) (drop at sheet) seconds₀ count ready.space i p.seen.few seconds p.middle l b (q.middle ∙ ap (middle_in key) line);
           right = row_more (third_in key) (drop at sheet) thirds₀ count ready.more i p.seen.few thirds p.right l c (q.right ∙ ap (third_in key) line);

@@ -20,7 +20,7 @@ use Rattle.sheet_reader.specs.declared.Reading.{Reading}
 use Rattle.sheet_reader.specs.Sheet.{sheet_head, sheet_turn, sheet_files, sheet_wants, sheet_run}
 use Rattle.sheet_reader.specs.Reading.{sheet_verdict, rule_verdict, read_verdict, refused_reading, read_answer, read_row, RunRows, run_rows, rows_verdict, SheetRead}
 use Rattle.sheet_reader.proofs.Rows.{length_each}
-use Rattle.sheet_reader.proofs.Good.{few-files, few-wants}
+use Rattle.sheet_reader.proofs.Good.{few_files, few_wants}
 use Rattle.sheet_runs.specs.declared.SheetRun.{SheetRun}
 use Rattle.sheet_runs.specs.SheetRuns.{early_verdict, filled_up, in_rows, run_by_value}
 use Rattle.sheet_runs.specs.Private.{said_by}
@@ -57,7 +57,7 @@ module _ (sheet : List ℕ) where
       go : (b : Bool) → refuses (sheet_verdict sheet) ≡ b → rows_verdict sheet (lent big small) ≡ early_verdict sheet
       go true e = rw e
       go false e =
-          rw (e, length-replicate {A = ℕ} big 0, length-replicate {A = ℕ} small 0, le-ltb big (sheet_files sheet) (omega (arith, few-files sheet e)), le-ltb small (sheet_wants sheet) (omega (arith, few-wants sheet e)))
+          rw (e, length-replicate {A = ℕ} big 0, length-replicate {A = ℕ} small 0, le-ltb big (sheet_files sheet) (omega (arith, few_files sheet e)), le-ltb small (sheet_wants sheet) (omega (arith, few_wants sheet e)))
 
   passes : refuses (early_verdict sheet) ≡ false → early_verdict sheet ≡ accepted
   unfolding early_verdict
@@ -76,13 +76,13 @@ module _ (sheet : List ℕ) where
     unfolding read_row
     row_kept e values row row' is = rw (verdict_said, e) at is
 
-    row_filled : refuses (early_verdict sheet) ≡ false → (values row' : List ℕ) (room : ℕ) → row' ≡ read_row (rows_verdict sheet (lent 256 64)) values (zeros room) → row' ≡ filled_up room values
+    row_filled_here : refuses (early_verdict sheet) ≡ false → (values row' : List ℕ) (room : ℕ) → row' ≡ read_row (rows_verdict sheet (lent 256 64)) values (zeros room) → row' ≡ filled_up room values
     unfolding read_row
-    row_filled e values row' room is = (rw (verdict_said, e) at is) ∙ filled_rest values room
+    row_filled_here e values row' room is = (rw (verdict_said, e) at is) ∙ filled_rest values room
 
-    pub run_read_here : (v : Verdict) → v ≡ said_by r → held v r.files r.wants r.head r.turn rows.starts rows.lengths rows.aggregates rows.numbers rows.counts ≡ run_by_value sheet
+    pub run_read_lem : (v : Verdict) → v ≡ said_by r → held v r.files r.wants r.head r.turn rows.starts rows.lengths rows.aggregates rows.numbers rows.counts ≡ run_by_value sheet
     unfolding run_by_value read_answer sheet_run
-    run_read_here v v-is = rw v-is (go (refuses (early_verdict sheet)) refl)
+    run_read_lem v v-is = rw v-is (go (refuses (early_verdict sheet)) refl)
       where
         go : (b : Bool) → refuses (early_verdict sheet) ≡ b
             → held (said_by r) r.files r.wants r.head r.turn rows.starts rows.lengths rows.aggregates rows.numbers rows.counts ≡ run_by_value sheet
@@ -95,7 +95,7 @@ module _ (sheet : List ℕ) where
             let is : r ≡ record { refusal = Accepted; place = 0; head = sheet_head sheet; turn = sheet_turn sheet; files = sheet_files sheet; wants = sheet_wants sheet } = rw e at said in
             rw e
             (same (ap said_by is ∙ sym (passes e)) (ap (λ x. x.files) is ∙ sym (length_each _ (sheet_files sheet))) (ap (λ x. x.wants) is ∙ sym (length_each _ (sheet_wants sheet))) (ap (λ x. x.head) is) (ap (λ x. x.turn) is)
-            (row_filled e _ _ 256 read.starts) (row_filled e _ _ 256 read.lengths) (row_filled e _ _ 256 read.aggregates) (row_filled e _ _ 64 read.numbers) (row_filled e _ _ 64 read.counts))
+            (row_filled_here e _ _ 256 read.starts) (row_filled_here e _ _ 256 read.lengths) (row_filled_here e _ _ 256 read.aggregates) (row_filled_here e _ _ 64 read.numbers) (row_filled_here e _ _ 64 read.counts))
 
 -- The first entries of a row, as far as it goes.
 module _ (row : List ℕ) (n end : ℕ) (is : end ≡ min n (length row)) where

@@ -15,7 +15,7 @@ use Rattle.text_bytes.specs.Text.{is_name}
 use Rattle.sheet_reader.specs.Sheet.{sheet_files, sheet_wants, sheet_run, sheet_name}
 use Rattle.sheet_reader.specs.Reading.{sheet_verdict, rule_verdict, read_name}
 use Rattle.sheet_reader.proofs.Rows.{length_each}
-use Rattle.sheet_reader.proofs.Good.{good-name, few-files, few-wants}
+use Rattle.sheet_reader.proofs.Good.{good_name, few_files, few_wants}
 use Rattle.sheet_reader.proofs.Answers.{in_turn}
 use Rattle.sheet_runs.specs.declared.SheetRun.{SheetRun}
 use Rattle.sheet_runs.specs.SheetRuns.{early_verdict, filled_up, in_rows, run_by_value, run_held}
@@ -64,21 +64,21 @@ module _ (sheet : List ℕ) (r : SheetRun) (is : r ≡ run_by_value sheet) where
   verdict_is_here = ap (λ x. x.verdict) is
 
   -- There are at most 256 files and 64 wants, whatever the verdict.
-  pub files_few_here : r.files ≤ 256
+  pub files_few : r.files ≤ 256
   unfolding run_by_value
-  files_few_here = rw is (go (refuses (early_verdict sheet)) refl)
+  files_few = rw is (go (refuses (early_verdict sheet)) refl)
     where
       go : (b : Bool) → refuses (early_verdict sheet) ≡ b → (run_by_value sheet).files ≤ 256
       go true e = rw e (omega arith)
-      go false e = rw (e, files_long sheet) (few-files sheet (early_passes sheet e))
+      go false e = rw (e, files_long sheet) (few_files sheet (early_passes sheet e))
 
-  pub wants_few_here : r.wants ≤ 64
+  pub wants_few : r.wants ≤ 64
   unfolding run_by_value
-  wants_few_here = rw is (go (refuses (early_verdict sheet)) refl)
+  wants_few = rw is (go (refuses (early_verdict sheet)) refl)
     where
       go : (b : Bool) → refuses (early_verdict sheet) ≡ b → (run_by_value sheet).wants ≤ 64
       go true e = rw e (omega arith)
-      go false e = rw (e, wants_long_here sheet) (few-wants sheet (early_passes sheet e))
+      go false e = rw (e, wants_long_here sheet) (few_wants sheet (early_passes sheet e))
 
   module _ (f : Bool) (f-is : f ≡ is_refusal r.verdict.refusal) where
     says : (b : Bool) → f ≡ b → refuses (early_verdict sheet) ≡ b
@@ -98,6 +98,6 @@ module _ (sheet : List ℕ) (r : SheetRun) (is : r ≡ run_by_value sheet) where
           good = good;
           run = rw is (rw early (rows_hold (early_verdict sheet) (sheet_run sheet) (length_each _ (sheet_files sheet) ∙ sym (length_each _ (sheet_files sheet))) (length_each _ (sheet_files sheet) ∙ sym (length_each _ (sheet_files sheet))) (length_each _ (sheet_wants sheet) ∙ sym (length_each _ (sheet_wants sheet)))));
           name = rw good;
-          named = rw good (good-name sheet good);
+          named = rw good (good_name sheet good);
           decides = λ checks. sym (first_passes (early_verdict sheet) checks early) ∙ in_turn (sheet_verdict sheet) (rule_verdict sheet) checks;
         }

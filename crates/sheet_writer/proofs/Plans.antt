@@ -26,10 +26,10 @@ use Rattle.walk.specs.Rows.{read_rows}
 use Rattle.runs.proofs.Search.{true_or_false}
 use Rattle.runs.proofs.Judged.{accepted_run}
 use Rattle.runs.proofs.AnyHead.{Right, sound_right, pulled_same, list_any_same, GoodAnyRun, accepted_any, judge_any_same}
-use Rattle.walk.proofs.Walks.{GoodList, list-fits}
-use Rattle.walk.proofs.AnyHead.{any-good, priced-same}
+use Rattle.walk.proofs.Walks.{GoodList, list_fits_lem}
+use Rattle.walk.proofs.AnyHead.{any_good, priced_same}
 use Rattle.walk.proofs.Filling.{one_each}
-use Rattle.runs.proofs.Stops.{wants-length, run_sound}
+use Rattle.runs.proofs.Stops.{wants_length, run_sound}
 use Rattle.text_bytes.specs.Text.{is_name}
 use Rattle.sheet_writer.specs.Writing.{row_verdict}
 use Rattle.sheet_writer.specs.PlanSheet.{plan_lines, plan_text, plan_sheet_verdict, PlanWritten}
@@ -37,7 +37,7 @@ use Rattle.sheet_writer.specs.AnyHead.{plan_any_text, plan_any_sheet_verdict, Pl
 use Rattle.sheet_writer.specs.declared.Written.{Written}
 use Rattle.text_pages.specs.Printing.{Wrote}
 use Rattle.sheet_writer.specs.Private.{plan_most, PlanFits}
-use Rattle.sheet_writer.proofs.Sheets.{last_verdict, judged-refused, judged-passes, run_passes, name_fits}
+use Rattle.sheet_writer.proofs.Sheets.{last_verdict, judged_refused, judged_passes, run_passes, name_fits}
 
 -- v is the run's verdict, w that of the run and the name, f whether w refuses.
 module _ (name : List ℕ) (run : Run) (froms tos row : List ℕ) (v w : Verdict) (v-is : v ≡ judge_any_of run) (w-is : w ≡ first_of (v ∷ refuse_if (not (is_name name)) BadName ∷ [])) (f : Bool)
@@ -50,7 +50,7 @@ module _ (name : List ℕ) (run : Run) (froms tos row : List ℕ) (v w : Verdict
 
   pub plan_refused : f ≡ true → plan_any_sheet_verdict name run froms tos row ≡ w
   unfolding plan_any_sheet_verdict
-  plan_refused e = judged-refused name (judge_any_of run) false v w v-is w-is f f-is (list_verdict_any run.head (stops_of run) froms tos ∷ row_verdict (plan_any_text name run froms tos) row ∷ []) e
+  plan_refused e = judged_refused name (judge_any_of run) false v w v-is w-is f f-is (list_verdict_any run.head (stops_of run) froms tos ∷ row_verdict (plan_any_text name run froms tos) row ∷ []) e
 
   module _ (good : f ≡ false) where
     pub plan_good : GoodAnyRun run
@@ -58,7 +58,7 @@ module _ (name : List ℕ) (run : Run) (froms tos row : List ℕ) (v w : Verdict
 
     plan_passes_here : plan_any_sheet_verdict name run froms tos row ≡ first_of (list_verdict_any run.head (stops_of run) froms tos ∷ row_verdict (plan_any_text name run froms tos) row ∷ [])
     unfolding plan_any_sheet_verdict
-    plan_passes_here = judged-passes name (judge_any_of run) false v w v-is w-is f f-is good (list_verdict_any run.head (stops_of run) froms tos ∷ row_verdict (plan_any_text name run froms tos) row ∷ [])
+    plan_passes_here = judged_passes name (judge_any_of run) false v w v-is w-is f f-is good (list_verdict_any run.head (stops_of run) froms tos ∷ row_verdict (plan_any_text name run froms tos) row ∷ [])
 
     -- a is what the pricer answered with rows for times and legs that are long enough, g whether that refuses.
     module _ (times legs : List ℕ) (room : most_wants ≤ length times) (space : most_wants ≤ length legs) (a : Answer)
@@ -95,9 +95,9 @@ module _ (name : List ℕ) (run : Run) (froms tos row : List ℕ) (v w : Verdict
           plan_passes_here ∙ rw (list_says ∙ e) (ap (λ x. record { refusal = x.refusal; place = x.place }) (sym (priced_refused (list_says ∙ e))))
 
       module _ (fine : g ≡ false) where
-        pub good_list_here : GoodList (stops_of run) froms tos
+        pub good_list_lem : GoodList (stops_of run) froms tos
         unfolding list
-        good_list_here = any-good run.head (stops_of run) froms tos (list_says ∙ fine)
+        good_list_lem = any_good run.head (stops_of run) froms tos (list_says ∙ fine)
 
         pub plan_last : plan_any_sheet_verdict name run froms tos row ≡ row_verdict (plan_any_text name run froms tos) row
         unfolding list
@@ -115,18 +115,18 @@ module _ (name : List ℕ) (run : Run) (froms tos row : List ℕ) (v w : Verdict
 
           -- One number for each want.
           each_want : (f : Stop → ℕ) → length (map f (want_stops_of run)) ≡ length run.numbers
-          each_want f = one_each f (want_stops_of run) ∙ wants-length run.starts run.lengths run.aggregates run.numbers run.counts (sym plan_good.run.wants.equal)
+          each_want f = one_each f (want_stops_of run) ∙ wants_length run.starts run.lengths run.aggregates run.numbers run.counts (sym plan_good.run.wants.equal)
 
-          first_entries : (values later : List ℕ) → length values ≡ length run.numbers → (row : List ℕ) → row ≡ values ++ later → take (length run.numbers) row ≡ values
-          first_entries values later e row h = ap (take (length run.numbers)) h ∙ take_at values later (length run.numbers) e
+          first_entries_here : (values later : List ℕ) → length values ≡ length run.numbers → (row : List ℕ) → row ≡ values ++ later → take (length run.numbers) row ≡ values
+          first_entries_here values later e row h = ap (take (length run.numbers)) h ∙ take_at values later (length run.numbers) e
 
           times_taken : take (length run.numbers) times' ≡ times-of
           unfolding times_of
-          times_taken = first_entries (times-of) (drop (length run.numbers) times) (each_want _) times' timed
+          times_taken = first_entries_here (times-of) (drop (length run.numbers) times) (each_want _) times' timed
 
           legs_taken : take (length run.numbers) legs' ≡ legs-of
           unfolding legs_for
-          legs_taken = first_entries (legs-of) (drop (length run.numbers) legs) (each_want _) legs' numbered
+          legs_taken = first_entries_here (legs-of) (drop (length run.numbers) legs) (each_want _) legs' numbered
 
           pub times_length : length run.numbers ≡ length (take (length run.numbers) times')
           unfolding times_of
@@ -142,8 +142,8 @@ module _ (name : List ℕ) (run : Run) (froms tos row : List ℕ) (v w : Verdict
               record {
                 room = wide;
                 short = name_fits name (judge_any_of run) false v w v-is w-is f f-is good;
-                few = omega (arith, list-fits (lifted run) plan_good.run froms tos good_list_here, plan_good.run.wants.few);
-                even = good_list_here.even;
+                few = omega (arith, list_fits_lem (lifted run) plan_good.run froms tos good_list_lem, plan_good.run.wants.few);
+                even = good_list_lem.even;
                 wants = plan_good.run.wants.few;
                 timed = times_length;
                 numbered = legs_length;
@@ -163,7 +163,7 @@ module _ (name : List ℕ) (run : Run) (accepts : refuses (judge_of run) ≡ fal
 
   pub text_same : plan_any_text name run froms tos ≡ plan_text name run froms tos
   unfolding plan_any_text plan_text priced_times priced_legs
-  text_same = rw (priced-same run (accepted_run run accepts) (list_of froms tos), pulled_same run.head (stops_of run) right)
+  text_same = rw (priced_same run (accepted_run run accepts) (list_of froms tos), pulled_same run.head (stops_of run) right)
 
   pub sheet_same : (row : List ℕ) → plan_any_sheet_verdict name run froms tos row ≡ plan_sheet_verdict name run froms tos row
   unfolding plan_any_sheet_verdict plan_sheet_verdict

@@ -27,8 +27,8 @@ module _ (key text rest : List ℕ) (plain : has line_feed key ≡ false) (flat 
   unfolding line_of
   line_first = rw (line_then, has_here line_feed (key ++ text) rest, before_here line_feed (key ++ text) rest whole_line)
 
-  pub line_behind_here : behind line_feed (line key text ++ rest) ≡ rest
-  line_behind_here = ap (behind line_feed) line_then ∙ behind_here line_feed (key ++ text) rest whole_line
+  pub line_behind_lem : behind line_feed (line key text ++ rest) ≡ rest
+  line_behind_lem = ap (behind line_feed) line_then ∙ behind_here line_feed (key ++ text) rest whole_line
 
 -- A key and what stands behind it.
 pub key_begins : (key text : List ℕ) → starts_with key (key ++ text) ≡ true
@@ -152,7 +152,7 @@ module _ (key : List ℕ) (plain : has line_feed key ≡ false) (rest : List ℕ
     first_line_here = ap line_of lines_more ∙ line_first key (texts 0) (lines_of (λ i. texts (suc i)) n ++ rest) plain flat
 
     behind_first : behind line_feed (lines_of texts (suc n) ++ rest) ≡ lines_of (λ i. texts (suc i)) n ++ rest
-    behind_first = ap (behind line_feed) lines_more ∙ line_behind_here key (texts 0) (lines_of (λ i. texts (suc i)) n ++ rest) plain flat
+    behind_first = ap (behind line_feed) lines_more ∙ line_behind_lem key (texts 0) (lines_of (λ i. texts (suc i)) n ++ rest) plain flat
 
   line_at : (texts : ℕ → List ℕ) → ((i : ℕ) → has line_feed (texts i) ≡ false) → (n i : ℕ) → i < n → line_after i (lines_of texts n ++ rest) ≡ key ++ texts i
   unfolding after_lines

@@ -11,7 +11,7 @@ use borrow.Author.Tests.{le-ltb, ltb-false}
 use Rattle.refusals.specs.Refusals.{is_refusal, accepted}
 use Rattle.runs.specs.Run.{Run, total, most_wants, most_aggregates}
 use Rattle.runs.specs.Judging.{judge_of, bad_place, bad_number, returns}
-use Rattle.runs.proofs.Search.{first-zero, or_false_both}
+use Rattle.runs.proofs.Search.{first_zero, or_false_both}
 use Rattle.runs.proofs.Accepted.{GoodFile, good_file}
 use Rattle.runs.proofs.Judged.{accepted_run}
 use Rattle.text_bytes.specs.Text.{line_feed, has, behind, is_name, is_name_byte, between, all_of, is_empty, starts_with, is_number, decimal}
@@ -25,7 +25,7 @@ use Rattle.text_bytes.proofs.Bytes.{and_true_both, not_empty}
 use Rattle.text_pages.proofs.Pages.{decimal_digits, decimal_short}
 use Rattle.text_bytes.proofs.Decimals.{has_none, decimal_without, decimal_some, decimal_number, decimal_value}
 use Rattle.sheet_writer.proofs.Sheets.{name_length}
-use Rattle.sheet_writer.proofs.Reread.{line_first, line_behind_lem, key_begins, key_value, number-back, value-back, count-back, pairs-behind, pairs-good, firsts-back, seconds-back, triples-behind, triples-good, lefts-back, middles-back, thirds-back}
+use Rattle.sheet_writer.proofs.Reread.{line_first, line_behind_lem, key_begins, key_value, number_back, value_back, count_back, pairs_behind, pairs_good, firsts_back, seconds_back, triples_behind, triples_good, lefts_back, middles_back, thirds_back}
 
 -- Every entry of a row is below a number: 2 to the 64, or the power of ten that says how many digits it has.
 abbrev pub RowBelow : ℕ → List ℕ → Type 0
@@ -61,7 +61,7 @@ number_fits aggregates i e = ltb-false most_aggregates (get_or aggregates i 0) (
 pub small_run : (run : Run) → is_refusal (judge_of run).refusal ≡ false → length run.starts ≤ most_sheet_files → SmallRun run
 small_run run e few =
     let g = accepted_run run e in
-    let file : (i : ℕ) → i < length run.starts → GoodFile run.starts run.lengths i = λ i l. good_file run.starts run.lengths i (first-zero (bad_place run.starts run.lengths) (length run.starts) g.files.table.sound i l) in
+    let file : (i : ℕ) → i < length run.starts → GoodFile run.starts run.lengths i = λ i l. good_file run.starts run.lengths i (first_zero (bad_place run.starts run.lengths) (length run.starts) g.files.table.sound i l) in
     record {
       head = omega (arith, g.start.near);
       turn = omega (arith, g.start.cheap);
@@ -180,7 +180,7 @@ module _ (name : List ℕ) (run : Run) (named : is_name name ≡ true) (small : 
   text : List ℕ
   text = sheet_text name run
 
-  text_is : text ≡ line tape_key name ++ rest₁
+  text_is_here : text ≡ line tape_key name ++ rest₁
   unfolding text sheet_text top_text rest₁ rest₂ rest₃ rest₄ rest₅ rest₆ F W
   text_is_here =
       regrouped (line tape_key name) (number_line head_key run.head) (number_line turn_key run.turn) (line rule_key least_text)
@@ -250,7 +250,7 @@ module _ (name : List ℕ) (run : Run) (named : is_name name ≡ true) (small : 
 
   files_back : sheet_files text ≡ F
   unfolding sheet_files
-  files_back = ap (number_behind files_key) line₄ ∙ value-back files_key F F-small
+  files_back = ap (number_behind files_key) line₄ ∙ value_back files_key F F-small
 
   -- The lines below.
   files_text : file_text text ≡ rest₅
@@ -262,7 +262,7 @@ module _ (name : List ℕ) (run : Run) (named : is_name name ≡ true) (small : 
   wants_text_here =
       ap (λ n. after_lines n (file_text text)) files_back
       ∙ ap (after_lines F) files_text
-      ∙ triples-behind file_key refl (number_line wants_key W ++ rest₆) run.starts run.lengths run.aggregates small.table small.numbered
+      ∙ triples_behind file_key refl (number_line wants_key W ++ rest₆) run.starts run.lengths run.aggregates small.table small.numbered
 
   wants_line : line_of (wants_text text) ≡ wants_key ++ decimal W
   unfolding has
@@ -270,7 +270,7 @@ module _ (name : List ℕ) (run : Run) (named : is_name name ≡ true) (small : 
 
   wants_back : sheet_wants text ≡ W
   unfolding sheet_wants
-  wants_back = ap (number_behind wants_key) wants_line ∙ value-back wants_key W W-small
+  wants_back = ap (number_behind wants_key) wants_line ∙ value_back wants_key W W-small
 
   want_text_here : want_text text ≡ rest₆
   unfolding want_text after_lines has
@@ -285,15 +285,15 @@ module _ (name : List ℕ) (run : Run) (named : is_name name ≡ true) (small : 
   end_text_here =
       ap (λ n. after_lines n (want_text text)) wants_back
       ∙ ap (after_lines W) want_pairs
-      ∙ pairs-behind want_key refl [] run.numbers run.counts small.pairs
+      ∙ pairs_behind want_key refl [] run.numbers run.counts small.pairs
 
   -- Each line is as described.
-  tape_good : is_tape_line (line_after 0 text) ≡ true
+  tape_good_here : is_tape_line (line_after 0 text) ≡ true
   unfolding is_tape_line
-  tape_good = ap is_tape_line line₀ ∙ name_back tape_key name named
+  tape_good_here = ap is_tape_line line₀ ∙ name_back tape_key name named
 
   head_good : is_number_line head_key (line_after 1 text) ≡ true
-  head_good = ap (is_number_line head_key) line₁ ∙ number-back head_key run.head small.head
+  head_good = ap (is_number_line head_key) line₁ ∙ number_back head_key run.head small.head
 
   turn_good : is_turn_line (line_after 2 text) ≡ true
   unfolding is_turn_line
@@ -304,18 +304,18 @@ module _ (name : List ℕ) (run : Run) (named : is_name name ≡ true) (small : 
 
   files_good : is_count_line files_key most_sheet_files (line_after 4 text) ≡ true
   unfolding F
-  files_good = ap (is_count_line files_key most_sheet_files) line₄ ∙ count-back files_key F F-small most_sheet_files small.files
+  files_good = ap (is_count_line files_key most_sheet_files) line₄ ∙ count_back files_key F F-small most_sheet_files small.files
 
   wants_good : is_count_line wants_key most_wants (line_of (wants_text text)) ≡ true
   unfolding W
-  wants_good = ap (is_count_line wants_key most_wants) wants_line ∙ count-back wants_key W W-small most_wants small.wants
+  wants_good = ap (is_count_line wants_key most_wants) wants_line ∙ count_back wants_key W W-small most_wants small.wants
 
   file_good_here : first_bad_of (is_triple_line file_key) (sheet_files text) (file_text text) ≡ 0
   unfolding rest₅ F has
   file_good_here =
       ap (λ n. first_bad_of (is_triple_line file_key) n (file_text text)) files_back
       ∙ ap (first_bad_of (is_triple_line file_key) F) files_text
-      ∙ triples-good file_key refl (number_line wants_key W ++ rest₆) run.starts run.lengths run.aggregates small.table small.numbered
+      ∙ triples_good file_key refl (number_line wants_key W ++ rest₆) run.starts run.lengths run.aggregates small.table small.numbered
       (λ i l. omega (arith, small.starts i l))
       (λ i l. omega (arith, small.lengths i (omega (arith, small.table))))
       (λ i l. omega (arith, small.aggregates i (omega (arith, small.numbered))))
@@ -325,16 +325,16 @@ module _ (name : List ℕ) (run : Run) (named : is_name name ≡ true) (small : 
   want_good_here =
       ap (λ n. first_bad_of (is_pair_line want_key) n (want_text text)) wants_back
       ∙ ap (first_bad_of (is_pair_line want_key) W) want_pairs
-      ∙ pairs-good want_key refl [] run.numbers run.counts small.pairs small.numbers (λ i l. small.counts i (omega (arith, small.pairs)))
+      ∙ pairs_good want_key refl [] run.numbers run.counts small.pairs small.numbers (λ i l. small.counts i (omega (arith, small.pairs)))
 
-  all_described : first_bad_line text ≡ 0
+  all_described_here : first_bad_line text ≡ 0
   unfolding first_bad_line first_bad_top first_bad_below
-  all_described = rw (tape_good, head_good, turn_good, rule_good_here, files_good, file_good_here, wants_good, want_good_here, end_text_here)
+  all_described_here = rw (tape_good_here, head_good, turn_good, rule_good_here, files_good, file_good_here, wants_good, want_good_here, end_text_here)
 
   -- What the sheet holds is what was written.
   head_back : sheet_head text ≡ run.head
   unfolding sheet_head
-  head_back = ap (number_behind head_key) line₁ ∙ value-back head_key run.head small.head
+  head_back = ap (number_behind head_key) line₁ ∙ value_back head_key run.head small.head
 
   turn_back_here : sheet_turn text ≡ run.turn
   unfolding sheet_turn_with turn_with
@@ -358,17 +358,17 @@ module _ (name : List ℕ) (run : Run) (named : is_name name ≡ true) (small : 
   run_back : sheet_run text ≡ run
   unfolding sheet_run F W rest₅ has
   run_back =
-      let starts = file_column (first_in file_key) run.starts (lefts-back file_key refl (number_line wants_key W ++ rest₆) run.starts run.lengths run.aggregates small.table small.numbered) in
-      let lengths = file_column (middle_in file_key) run.lengths (middles-back file_key refl (number_line wants_key W ++ rest₆) run.starts run.lengths run.aggregates small.table small.numbered) in
-      let aggregates = file_column (third_in file_key) run.aggregates (thirds-back file_key refl (number_line wants_key W ++ rest₆) run.starts run.lengths run.aggregates small.table small.numbered) in
-      let numbers = want_column (first_in want_key) run.numbers (firsts-back want_key refl [] run.numbers run.counts small.pairs) in
-      let counts = want_column (second_in want_key) run.counts (seconds-back want_key refl [] run.numbers run.counts small.pairs) in
+      let starts = file_column (first_in file_key) run.starts (lefts_back file_key refl (number_line wants_key W ++ rest₆) run.starts run.lengths run.aggregates small.table small.numbered) in
+      let lengths = file_column (middle_in file_key) run.lengths (middles_back file_key refl (number_line wants_key W ++ rest₆) run.starts run.lengths run.aggregates small.table small.numbered) in
+      let aggregates = file_column (third_in file_key) run.aggregates (thirds_back file_key refl (number_line wants_key W ++ rest₆) run.starts run.lengths run.aggregates small.table small.numbered) in
+      let numbers = want_column (first_in want_key) run.numbers (firsts_back want_key refl [] run.numbers run.counts small.pairs) in
+      let counts = want_column (second_in want_key) run.counts (seconds_back want_key refl [] run.numbers run.counts small.pairs) in
       λ i. record { starts = starts i; lengths = lengths i; aggregates = aggregates i; numbers = numbers i; counts = counts i; head = head_back i; turn = turn_back_here i }
 
   -- The sheet is not too long.
-  short_enough : length text ≤ longest_sheet
+  short_enough_here : length text ≤ longest_sheet
   unfolding text sheet_text top_text F W
-  short_enough =
+  short_enough_here =
       sum_length (line tape_key name) (number_line head_key run.head) (number_line turn_key run.turn) (line rule_key least_text)
       (number_line files_key F) (triple_lines file_key run.starts run.lengths run.aggregates) (number_line wants_key W) (pair_lines want_key run.numbers run.counts)
       (omega (arith, line_length tape_key name, name_length name named))
@@ -392,8 +392,8 @@ pub record ReadsBack (name : List ℕ) (run : Run) : Type 0 where
 pub small_trip : (name : List ℕ) (run : Run) → SmallRun run → is_name name ≡ true → ReadsBack name run
 unfolding text sheet_verdict rule_verdict read_name
 small_trip name run small named =
-    let long = short_enough name run named small in
-    let good : sheet_verdict (sheet_text name run) ≡ accepted = rw (le-ltb longest_sheet (length (sheet_text name run)) long, all_described name run named small) in
+    let long = short_enough_here name run named small in
+    let good : sheet_verdict (sheet_text name run) ≡ accepted = rw (le-ltb longest_sheet (length (sheet_text name run)) long, all_described_here name run named small) in
     record {
       short = long;
       accepts = good;

@@ -133,8 +133,8 @@ module _ (name : List ℕ) (j : Verdict) (over : Bool) (v w : Verdict) (v-is : v
     passes : AllAccept (j ∷ refuse_if (over || not (is_name name)) BadName ∷ [])
     passes = all_accept (j ∷ refuse_if (over || not (is_name name)) BadName ∷ []) (test_says judged_is f-is good)
 
-    pub run_passes_here : is_refusal j.refusal ≡ false
-    run_passes_here = passes.0
+    pub run_passes : is_refusal j.refusal ≡ false
+    run_passes = passes.0
 
     name_passes : (over ≡ false) × (not (is_name name) ≡ false)
     name_passes = or_false_both over (not (is_name name)) (accepts_if (over || not (is_name name)) BadName refl passes.1.0)
@@ -142,11 +142,11 @@ module _ (name : List ℕ) (j : Verdict) (over : Bool) (v w : Verdict) (v-is : v
     pub few_files : over ≡ false
     few_files = name_passes.0
 
-    pub name_fits_here : length name ≤ 16
-    name_fits_here = name_length name (not-false (is_name name) name_passes.1)
+    pub name_fits : length name ≤ 16
+    name_fits = name_length name (not-false (is_name name) name_passes.1)
 
 pub good_run : (name : List ℕ) (run : Run) (over : Bool) (v w : Verdict) → v ≡ judge_of run → w ≡ first_of (v ∷ refuse_if (over || not (is_name name)) BadName ∷ []) → (f : Bool) → f ≡ is_refusal w.refusal → f ≡ false → GoodRun run
-good_run name run over v w v-is w-is f f-is good = accepted_run run (run_passes_here name (judge_of run) over v w v-is w-is f f-is good)
+good_run name run over v w v-is w-is f f-is good = accepted_run run (run_passes name (judge_of run) over v w v-is w-is f f-is good)
 
 -- The run sheet writer.
 module _ (name : List ℕ) (run : Run) (row : List ℕ) (v w : Verdict) (v-is : v ≡ judge_of run)
@@ -162,7 +162,7 @@ module _ (name : List ℕ) (run : Run) (row : List ℕ) (v w : Verdict) (v-is : 
         let g = good_run name run over v w v-is w-is f f-is good in
         record {
           room = room;
-          short = name_fits_here name (judge_of run) over v w v-is w-is f f-is good;
+          short = name_fits name (judge_of run) over v w v-is w-is f f-is good;
           files = ltb-false most_sheet_files (length run.starts) (few_files name (judge_of run) over v w v-is w-is f f-is good);
           table = g.files.table.equal;
           numbered = g.files.rows;

@@ -9,7 +9,7 @@ use Rattle.tape_files.specs.Index.{insides, label_name, block_size_name, partiti
 use Rattle.tape_markup.specs.Places.{tokens_at}
 use Rattle.tape_files.specs.Elements.{frames_at, inside}
 use Rattle.tape_files.specs.Values.{number_field, letter_field, field_at, label_of}
-use Rattle.tape_files.proofs.Bare.{folded, field_step, field-said}
+use Rattle.tape_files.proofs.Bare.{folded, field_step, field_said}
 
 pub label_whole : (text : List ℕ) (size partition : Field)
     → size ≡ folded (field_step number_field (block_size_name ∷ [])) Field.Missing (insides label_name (inside text (Place.Text 0)))
@@ -17,4 +17,4 @@ pub label_whole : (text : List ℕ) (size partition : Field)
     → record { size = size; partition = partition } ≡ label_of (tree_of text)
 unfolding label_of block_sizes data_partitions field_at frames_at tokens_at tree_of
 label_whole text size partition s p =
-    rw (s, p, field-said number_field (block_size_name ∷ []) label_name (tree_of text), field-said letter_field (partitions_name ∷ data_name ∷ []) label_name (tree_of text))
+    rw (s, p, field_said number_field (block_size_name ∷ []) label_name (tree_of text), field_said letter_field (partitions_name ∷ data_name ∷ []) label_name (tree_of text))

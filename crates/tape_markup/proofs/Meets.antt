@@ -20,7 +20,7 @@ use Rattle.tape_markup.specs.Markup.{Piece, opens, alone, closes, plain, passed,
 use Rattle.tape_markup.specs.Steps.{piece_step, step_at}
 use Rattle.tape_markup.specs.Places.{part, NameIn, PlaceIn, place_at, tokens_at, Begins, Passes, StepMet}
 use Rattle.tape_markup.specs.Promises.{StepsSayTokens}
-use Rattle.tape_markup.proofs.Pieces.{step_end, step-byte, step-markup}
+use Rattle.tape_markup.proofs.Pieces.{step_end, step_byte, step_markup}
 
 -- An end of a text of so many bytes: behind at least so many, and not past them all.
 abbrev EndIn : ℕ → ℕ → End → Type 0
@@ -211,8 +211,8 @@ module _ (text : List ℕ) (at : ℕ) where
 
       by_byte : at < length text → StepMet (tokens_at text (Place.Text at)) text at (step_at text (Place.Text at))
       by_byte l = elim (ℕ_discrete (get_or text at 0) 60) [
-        | yes e ↦ rw (← step-markup text at l e, tokens_markup l e) (piece_meets (piece_of (drop (at + 1) text)) l (piece_in (drop (at + 1) text)).is)
-        | no n ↦ rw (← step-byte text at l n) (record { first = tokens_byte l n; within = omega arith })
+        | yes e ↦ rw (← step_markup text at l e, tokens_markup l e) (piece_meets (piece_of (drop (at + 1) text)) l (piece_in (drop (at + 1) text)).is)
+        | no n ↦ rw (← step_byte text at l n) (record { first = tokens_byte l n; within = omega arith })
       ]
 
 -- The bytes of a CDATA section, one at a time; behind the last of them `]]>` is passed over.

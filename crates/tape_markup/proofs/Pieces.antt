@@ -134,8 +134,8 @@ module _ (text : List ℕ) (at : ℕ) (opening : Opening) (told : OpeningMet (ta
   told_at : OpeningMet (drop (at + 1) text) opening
   told_at = rw (rest_all text (at + 1)) at told
 
-  further_on : (m j : ℕ) → at + 1 + m ≡ j → drop m (drop (at + 1) text) ≡ drop j text
-  further_on m j e = drop-drop m (at + 1) text ∙ ap (λ (i : ℕ). drop i text) e
+  further_on_here : (m j : ℕ) → at + 1 + m ≡ j → drop m (drop (at + 1) text) ≡ drop j text
+  further_on_here m j e = drop-drop m (at + 1) text ∙ ap (λ (i : ℕ). drop i text) e
 
   fits : (key : List ℕ) → starts_with key (drop (at + 1) text) ≡ true → 0 < length key → at + 1 + length key ≤ length text
   fits key e s = omega (arith, begun_long key (drop (at + 1) text) e, length-drop (at + 1) text)
@@ -167,34 +167,34 @@ module _ (text : List ℕ) (at : ℕ) (opening : Opening) (told : OpeningMet (ta
   unfolding piece_of
   comment_step e ending r f p =
       let o : starts_with comment_start (drop (at + 1) text) ≡ true = rw e at told_at in
-      rw (o, further_on 3 (at + 4) (omega arith))
+      rw (o, further_on_here 3 (at + 4) (omega arith))
       (p ∙ passed_step text at (at + 4) 3 (end_behind comment_end (drop (at + 4) text)) ending (omega arith) f)
 
   pub plain_told : opening ≡ Opening.Plain → (r : Step) → r ≡ piece_step at (plain_to (end_behind plain_end (drop (at + 9) text))) → r ≡ piece_step at (piece_of (drop (at + 1) text))
   unfolding piece_of
   plain_told e r p =
       let o : OpeningMet (drop (at + 1) text) Opening.Plain = rw e at told_at in
-      rw (o.0, o.1, further_on 8 (at + 9) (omega arith)) p
+      rw (o.0, o.1, further_on_here 8 (at + 9) (omega arith)) p
 
   pub instruction_step : opening ≡ Opening.Instruction → (ending : Ending) (r : Step) → EndFound (end_behind instruction_end (drop (at + 2) text)) text (at + 2) ending → r ≡ past_to ending → r ≡ piece_step at (piece_of (drop (at + 1) text))
   unfolding piece_of
   instruction_step e ending r f p =
       let o : OpeningMet (drop (at + 1) text) Opening.Instruction = rw e at told_at in
-      rw (o.0, o.1, o.2, further_on 1 (at + 2) (omega arith))
+      rw (o.0, o.1, o.2, further_on_here 1 (at + 2) (omega arith))
       (p ∙ passed_step text at (at + 2) 1 (end_behind instruction_end (drop (at + 2) text)) ending (omega arith) f)
 
   pub declaration_step : opening ≡ Opening.Declaration → (ending : Ending) (r : Step) → EndFound (declaration_end 0 0 (drop (at + 2) text)) text (at + 2) ending → r ≡ past_to ending → r ≡ piece_step at (piece_of (drop (at + 1) text))
   unfolding piece_of
   declaration_step e ending r f p =
       let o : OpeningMet (drop (at + 1) text) Opening.Declaration = rw e at told_at in
-      rw (o.0, o.1, o.2, o.3, further_on 1 (at + 2) (omega arith))
+      rw (o.0, o.1, o.2, o.3, further_on_here 1 (at + 2) (omega arith))
       (p ∙ passed_step text at (at + 2) 1 (declaration_end 0 0 (drop (at + 2) text)) ending (omega arith) f)
 
   pub end_tag_told : opening ≡ Opening.EndTag → (r : Step) → r ≡ piece_step at (end_tag (drop (at + 2) text) (name_size (drop (at + 2) text))) → r ≡ piece_step at (piece_of (drop (at + 1) text))
   unfolding piece_of
   end_tag_told e r p =
       let o : OpeningMet (drop (at + 1) text) Opening.EndTag = rw e at told_at in
-      rw (o.0, o.1, o.2, o.3, o.4, further_on 1 (at + 2) (omega arith)) p
+      rw (o.0, o.1, o.2, o.3, o.4, further_on_here 1 (at + 2) (omega arith)) p
 
   pub start_tag_told : opening ≡ Opening.StartTag → (r : Step) → r ≡ piece_step at (start_tag (drop (at + 1) text) (name_size (drop (at + 1) text))) → r ≡ piece_step at (piece_of (drop (at + 1) text))
   unfolding piece_of

@@ -230,15 +230,15 @@ module _ (list starts ends order : List ℕ) (range : Range) where
   namingFrom naming [] = naming
   namingFrom naming (byte ∷ bytes) = namingFrom (with_byte list starts ends order naming byte) bytes
 
-  name_read : (rest read : List ℕ) (naming : Naming) → NameRead read naming → (namingFrom naming rest).whole ≡ range_of (decoded (read ++ rest))
+  name_read_here : (rest read : List ℕ) (naming : Naming) → NameRead read naming → (namingFrom naming rest).whole ≡ range_of (decoded (read ++ rest))
   unfolding namingFrom
-  name_read [] read naming p = rw (append-nil read) p.whole
-  name_read (b ∷ rest) read naming p =
-      rw (← append_snoc read b rest) (name_read rest (read ++ b ∷ []) (with_byte list starts ends order naming b) (read_byte read naming p b))
+  name_read_here [] read naming p = rw (append-nil read) p.whole
+  name_read_here (b ∷ rest) read naming p =
+      rw (← append_snoc read b rest) (name_read_here rest (read ++ b ∷ []) (with_byte list starts ends order naming b) (read_byte read naming p b))
 
   name_said : (name : List ℕ) → (namingFrom (no_naming range) name).whole ≡ range_of (decoded name)
   unfolding decoded_behind narrowed_all
-  name_said name = name_read name [] (no_naming range) (record { whole = refl; standing = λ rest. refl })
+  name_said name = name_read_here name [] (no_naming range) (record { whole = refl; standing = λ rest. refl })
 
   -- A reader somewhere in a name: the bytes left make of what is known what all make.
   pub record NameLeft (text : List ℕ) (place : Place) (naming : Naming) (here : Place) : Type 0 where

@@ -13,7 +13,7 @@ use Rattle.tape_files.specs.Elements.{taken_for, inside, level_at}
 use Rattle.tape_picks.specs.declared.walk.Walk.{Walk}
 use Rattle.tape_picks.specs.Private.{ListHeld, WalkAt, no_range, named_range, below_range}
 use Rattle.tape_picks.proofs.Extents.{inside_place}
-use Rattle.tape_picks.proofs.Ranges.{range-named, range-below}
+use Rattle.tape_picks.proofs.Ranges.{range_named, range_below}
 
 module _ (text list starts ends order : List ℕ) (count : ℕ) (held : ListHeld list starts ends order count) (own : List ℕ) (outer : List (List ℕ)) (walk : Walk)
     (w : WalkAt text (path_at list starts ends order) count own outer walk) (range : Range) (is : range ≡ get_or walk.ranges walk.depth no_range) (next : Place) (p : PlaceIn text next) where
@@ -22,7 +22,7 @@ module _ (text list starts ends order : List ℕ) (count : ℕ) (held : ListHeld
 
   pub below_held : (r : Range) → r ≡ below_range list starts ends order range walk.depth (inside text (taken_for text next))
       → RangeHolds (path_at list starts ends order) count (path_below (level_at (length outer)) own (inside text next)) r
-  below_held r e = rw (e, inside_place text next p, w.deep) (range-below list starts ends order count held own range around (length outer) (inside text next))
+  below_held r e = rw (e, inside_place text next p, w.deep) (range_below list starts ends order count held own range around (length outer) (inside text next))
 
   pub named_held : RangeHolds (path_at list starts ends order) count (own ++ own_name (inside text next)) (named_range list starts ends order range (inside text next))
-  named_held = range-named list starts ends order count held own range around (inside text next)
+  named_held = range_named list starts ends order count held own range around (inside text next)

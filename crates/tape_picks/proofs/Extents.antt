@@ -32,10 +32,10 @@ abbrev pub info_step : Tape → Ranged → Forest → Ranged
 info_step tape f held = ranged_from tape f (insides extent_name held)
 
 module _ (tape : Tape) where
-  pub extents_read_here : (f : Ranged) (l : List Forest) → folded (extent_step tape) f l ≡ ranged_from tape f l
+  pub extents_read : (f : Ranged) (l : List Forest) → folded (extent_step tape) f l ≡ ranged_from tape f l
   unfolding folded ranged_from
-  extents_read_here f [] = refl
-  extents_read_here f (extent ∷ l) = extents_read_here (extent_step tape f extent) l
+  extents_read f [] = refl
+  extents_read f (extent ∷ l) = extents_read (extent_step tape f extent) l
 
   extents_append_here : (f : Ranged) (a b : List Forest) → ranged_from tape f (a ++ b) ≡ ranged_from tape (ranged_from tape f a) b
   unfolding ranged_from
@@ -55,9 +55,9 @@ module _ (tape : Tape) where
       ∙ sym (extents_append_here f (insides extent_name info) (flattened (map (under (extent_name ∷ [])) l)))
       ∙ ap (λ (k : List Forest). ranged_from tape f (k ++ flattened (map (under (extent_name ∷ [])) l))) (sym (joined_ones_here (insides extent_name info)))
 
-  pub file_read_here : (f : Ranged) (held : Forest) → folded (info_step tape) f (insides extent_info_name held) ≡ ranged_from tape f (extents_of held)
+  pub file_read : (f : Ranged) (held : Forest) → folded (info_step tape) f (insides extent_info_name held) ≡ ranged_from tape f (extents_of held)
   unfolding extents_of under
-  file_read_here f held = infos_read_here f (insides extent_info_name held)
+  file_read f held = infos_read_here f (insides extent_info_name held)
 
   -- Whether all extents are good; and what good ones say.
   pub ranged_good : (f : Ranged) (extents : List Forest) → (ranged_from tape f extents).good ≡ (f.good && every is_good_extent extents)

@@ -31,7 +31,7 @@ use Rattle.tape_picks.specs.declared.walk.Walk.{Walk}
 use Rattle.tape_picks.specs.declared.walk.Met.{Met}
 use Rattle.tape_picks.specs.Picks.{files_named, file_span, has_no_bytes, no_pick, one_pick, pick_of}
 use Rattle.tape_picks.specs.Private.{noted_pick, ends_at, ListHeld, FileNoted, no_file, ranged_from, named_under, named_left, WalkAt, FileMet, MetAt, walk_start}
-use Rattle.tape_picks.proofs.Extents.{ranged-good, ranged-span}
+use Rattle.tape_picks.proofs.Extents.{ranged_good, ranged_span}
 
 -- A text is itself, and begins with itself.
 starts_self : (a : List ℕ) → starts_with a a ≡ true
@@ -100,10 +100,10 @@ module _ (text list starts ends order : List ℕ) (count : ℕ) (held : ListHeld
   shallow_text : is_balanced text ≡ true → depth (tree_of text) ≤ 32
   shallow_text e = let f = (balanced_exactly text).0 e in rw (tree_is_the_forest text f.0 f.2) f.1
 
-  pub gathering_none_here : is_balanced text ≡ true → (rows : ℕ → Pick) → ((k : ℕ) → k < count → rows (get_or order k 0) ≡ no_pick) →
+  pub gathering_none : is_balanced text ≡ true → (rows : ℕ → Pick) → ((k : ℕ) → k < count → rows (get_or order k 0) ≡ no_pick) →
       (walk : Walk) → walk ≡ walk_start count → Gathering text list starts ends order count tape rows walk
   unfolding files_named pick_of named_left named_under named_files frames_at tokens_at tree_of level_at every
-  gathering_none_here e rows zeros walk is =
+  gathering_none e rows zeros walk is =
       let s = shallow_text e in
       rw is
       (record {
@@ -176,7 +176,7 @@ module _ (text list starts ends order : List ℕ) (count : ℕ) (held : ListHeld
         ∙ g.all
 
     file_good_here : (f : NamedFile) → r.file ≡ ranged_from tape no_file f.extents → r.file.good ≡ is_good_file f
-    file_good_here f e = rw e (ranged-good tape no_file f.extents)
+    file_good_here f e = rw e (ranged_good tape no_file f.extents)
 
     met_good : (files : List NamedFile) → FileMet path count tape files r → r.file.good ≡ true → every is_good_file files ≡ true
     unfolding every
@@ -195,7 +195,7 @@ module _ (text list starts ends order : List ℕ) (count : ℕ) (held : ListHeld
     met_notes [] p e after noted k l = notes_none g.met rows after r.range r.file.span noted g.notes p.0 k l
     met_notes (f ∷ []) p e after noted k l =
         let good : is_good_file f ≡ true = sym (file_good_here f p.1) ∙ e in
-        notes_one g.met rows after r.range r.file.span noted g.notes f p.0 (rw p.1 (ranged-span tape no_file f.extents good)) k l
+        notes_one g.met rows after r.range r.file.span noted g.notes f p.0 (rw p.1 (ranged_span tape no_file f.extents good)) k l
     met_notes (f ∷ h ∷ files) p e after noted k l = absurd p
 
     pub gathering_more : r.file.good ≡ true → (after : ℕ → Pick) → FileNoted starts ends order count r.range

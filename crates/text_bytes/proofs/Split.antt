@@ -27,10 +27,10 @@ module _ (c : ℕ) where
   before_here [] b e = rw (eq-eqb c c refl)
   before_here (x ∷ a) b e = let both = or_false_both (eqb x c) (has c a) e in rw both.0 (ap (λ t. x ∷ t) (before_here a b both.1))
 
-  pub behind_here_here : (a b : List ℕ) → has c a ≡ false → behind c (a ++ c ∷ b) ≡ b
+  pub behind_here : (a b : List ℕ) → has c a ≡ false → behind c (a ++ c ∷ b) ≡ b
   unfolding has behind
-  behind_here_here [] b e = rw (eq-eqb c c refl)
-  behind_here_here (x ∷ a) b e = let both = or_false_both (eqb x c) (has c a) e in rw both.0 (behind_here_here a b both.1)
+  behind_here [] b e = rw (eq-eqb c c refl)
+  behind_here (x ∷ a) b e = let both = or_false_both (eqb x c) (has c a) e in rw both.0 (behind_here a b both.1)
 
   -- A text that has a byte: what stands before it, the byte, and what stands behind it. No such byte stands before the first.
   pub split_at : (text : List ℕ) → has c text ≡ true → text ≡ before c text ++ (c ∷ behind c text)

@@ -33,7 +33,7 @@ module _ (input : List ℕ) (r : NumberLine) (found : NumberLineFound (is_number
 
   pub no_count : (cut : Bool) → r ≡ NumberLine.Bad → Bad ≡ framed input cut
   unfolding framed is_number_line starts_with
-  no_count_here cut e =
+  no_count cut e =
       let bad : is_number (line_of input) ≡ false = subst (λ (x : NumberLine). NumberLineFound (is_number_line []) (number_behind []) input 0 x) e found in
       rw bad
 
@@ -41,8 +41,8 @@ module _ (input : List ℕ) (r : NumberLine) (found : NumberLineFound (is_number
     counted : NumberLineFound (is_number_line []) (number_behind []) input 0 (NumberLine.Value number next)
     counted = subst (λ (x : NumberLine). NumberLineFound (is_number_line []) (number_behind []) input 0 x) e found
 
-    pub next_within_here : next ≤ length input
-    next_within_here = counted.0.within
+    pub next_within : next ≤ length input
+    next_within = counted.0.within
 
     left_is : length input - next ≡ length rest
     left_is = sym (length-drop next input) ∙ ap length counted.0.rest
@@ -51,13 +51,13 @@ module _ (input : List ℕ) (r : NumberLine) (found : NumberLineFound (is_number
     unfolding framed is_number_line starts_with
     count_framed cut left l f is =
         let good : is_number (line_of input) ≡ true = counted.0.good in
-        let from : next ≡ length input - length rest = omega (arith, left_is, next_within_here) in
+        let from : next ≡ length input - length rest = omega (arith, left_is, next_within) in
         is ∙ rw (good, ← from, ← left_is, l, counted.1)
 
 -- The bytes between two places.
 module _ (text : List ℕ) (from to : ℕ) where
-  pub part_there_here : from ≤ to → to ≤ length text → take (to - from) (drop from text) ≡ part_in text from to
-  part_there_here l m = rw (le-leb from to l, le-leb to (length text) m)
+  pub part_there : from ≤ to → to ≤ length text → take (to - from) (drop from text) ≡ part_in text from to
+  part_there l m = rw (le-leb from to l, le-leb to (length text) m)
 
   pub part_beyond : from ≤ to → length text < to → text ≡ part_in text from to
   part_beyond l m = rw (le-leb from to l, lt-leb to (length text) m)

@@ -38,8 +38,8 @@ fewer (suc m) (suc n) (x ∷ row) l e =
 
 module _ (row₀ row : List ℕ) (n : ℕ) (r : Reading row₀ n row) where
   -- The input, or the row, has ended.
-  pub line_ended_here : LineRead row₀ n row
-  line_ended_here = record { held = omega (arith, r.held, r.long); one = fewer (n - 1) n row (omega arith) r.none; kept = r.kept }
+  pub line_ended : LineRead row₀ n row
+  line_ended = record { held = omega (arith, r.held, r.long); one = fewer (n - 1) n row (omega arith) r.none; kept = r.kept }
 
   module _ (b : ℕ) (l : n < length row) where
     behind_set : drop (n + 1) (set row n b) ≡ drop (n + 1) row₀

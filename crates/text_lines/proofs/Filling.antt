@@ -9,7 +9,7 @@ use lib.ListN.{length, drop, set, length-append, length-drop}
 use lib.Seq.{drop-cons, set_at, append_snoc}
 use Rattle.text_lines.specs.Lines.{line_of, line_after, is_pair_line, first_in, second_in, each_of, first_bad_of, filled_row, held_in, pairs_filled}
 use Rattle.text_lines.specs.Found.{PairAt, PairsRead}
-use Rattle.text_lines.proofs.Passing.{LinesSeen, lines_none, line-seen, line-bad-here, lines_passed}
+use Rattle.text_lines.proofs.Passing.{LinesSeen, lines_none, line_seen, line_bad_here, lines_passed}
 
 pub length_each : (value : ℕ → ℕ) (n : ℕ) → length (each_of value n) ≡ n
 unfolding each_of
@@ -28,8 +28,8 @@ length_row value n row l = length-append (each_of value n) (drop n row) ∙ rw (
 -- A row that holds the values of the lines so far: its length, the same when all are filled, and with one value more.
 module _ (value : List ℕ → ℕ) (text row₀ : List ℕ) (count : ℕ) (room : count ≤ length row₀) (i : ℕ) (few : i ≤ count) (row : List ℕ)
     (is : row ≡ filled_row value text i row₀) where
-  pub row_long_here : length row ≡ length row₀
-  row_long_here = rw is (length_row (λ j. value (line_after j text)) i row₀ (omega (arith, room, few)))
+  pub row_long : length row ≡ length row₀
+  row_long = rw is (length_row (λ j. value (line_after j text)) i row₀ (omega (arith, room, few)))
 
   pub row_filled : count ≤ i → row ≡ filled_row value text count row₀
   row_filled l = let e : i ≡ count = omega (arith, few) in rw e at is
@@ -50,16 +50,16 @@ module _ (key text : List ℕ) (at count most : ℕ) (firsts₀ seconds₀ : Lis
   space : most ≤ length seconds₀
   space = omega (arith, held)
 
-  pub filling_none_here : (start : ℕ) → start ≤ length text → drop start text ≡ drop at text → Filling key text at most firsts₀ seconds₀ start 0 firsts₀ seconds₀
+  pub filling_none : (start : ℕ) → start ≤ length text → drop start text ≡ drop at text → Filling key text at most firsts₀ seconds₀ start 0 firsts₀ seconds₀
   unfolding each_of
-  filling_none_here start l e = record { seen = lines_none (is_pair_line key) text at most start l e; left = refl; right = refl }
+  filling_none start l e = record { seen = lines_none (is_pair_line key) text at most start l e; left = refl; right = refl }
 
   module _ (next i : ℕ) (firsts seconds : List ℕ) (p : Filling key text at most firsts₀ seconds₀ next i firsts seconds) where
     pub left_long : length firsts ≡ length firsts₀
-    left_long = row_long_here (first_in key) (drop at text) firsts₀ most room i p.seen.few firsts p.left
+    left_long = row_long (first_in key) (drop at text) firsts₀ most room i p.seen.few firsts p.left
 
     pub right_long : length seconds ≡ length seconds₀
-    right_long = row_long_here (second_in key) (drop at text) seconds₀ most space i p.seen.few seconds p.right
+    right_long = row_long (second_in key) (drop at text) seconds₀ most space i p.seen.few seconds p.right
 
     -- Both rows have an entry for the line.
     pub left_in : i < most → i < length firsts
@@ -72,7 +72,7 @@ module _ (key text : List ℕ) (at count most : ℕ) (firsts₀ seconds₀ : Lis
     pair_filled l a b after q =
         let line = ap line_of p.seen.rest in
         record {
-          seen = line-seen (is_pair_line key) text at most next i p.seen l after q.passed;
+          seen = line_seen (is_pair_line key) text at most next i p.seen l after q.passed;
           left = row_more (first_in key) (drop at text) firsts₀ most room i p.seen.few firsts p.left l a (q.left ∙ ap (first_in key) line);
           right = row_more (second_in key) (drop at text) seconds₀ most space i p.seen.few seconds p.right l b (q.right ∙ ap (second_in key) line);
         }
@@ -84,7 +84,7 @@ module _ (key text : List ℕ) (at count most : ℕ) (firsts₀ seconds₀ : Lis
     pub stopped : i < most → is_pair_line key (line_of (drop next text)) ≡ false → PairsRead key text at count firsts₀ seconds₀ firsts seconds
     unfolding pairs_filled
     stopped l bad =
-        let first : first_bad_of (is_pair_line key) most (drop at text) ≡ suc i = (line-bad-here (is_pair_line key) text at most next i p.seen l bad).first ∙ add-one i in
+        let first : first_bad_of (is_pair_line key) most (drop at text) ≡ suc i = (line_bad_here (is_pair_line key) text at most next i p.seen l bad).first ∙ add-one i in
         all_read (rw (← held, first))
 
     pub ended : most ≤ i → PairsRead key text at count firsts₀ seconds₀ firsts seconds

@@ -54,18 +54,18 @@ module _ (key text : List ℕ) (at : ℕ) (here : at ≤ length text) (r : Found
   line_missing e = rw (rw rest_all at (subst (λ f. FoundIn line_feed (take (length text - at) (drop at text)) f) e found))
 
   module _ (i : ℕ) (e : r ≡ Found.At i) where
-    line_ends : FirstAt line_feed (drop at text) i
-    line_ends = subst (λ t. FirstAt line_feed t i) rest_all (subst (λ f. FoundIn line_feed (take (length text - at) (drop at text)) f) e found)
+    line_ends_here : FirstAt line_feed (drop at text) i
+    line_ends_here = subst (λ t. FirstAt line_feed t i) rest_all (subst (λ f. FoundIn line_feed (take (length text - at) (drop at text)) f) e found)
 
-    line_is : line_of (drop at text) ≡ take i (drop at text)
+    line_is_here : line_of (drop at text) ≡ take i (drop at text)
     unfolding line_of
-    line_is = rw line_ends.stands line_ends.front
+    line_is_here = rw line_ends_here.stands line_ends_here.front
 
     pub line_within : at + i < length text
-    line_within = omega (arith, rw (length-drop at text) at line_ends.within)
+    line_within = omega (arith, rw (length-drop at text) at line_ends_here.within)
 
     part_is : take (at + i - at) (drop at text) ≡ line_of (drop at text)
-    part_is = let s : at + i - at ≡ i = omega arith in rw (s, line_is)
+    part_is = let s : at + i - at ≡ i = omega arith in rw (s, line_is_here)
 
     module _ (t : Bool) (begins : t ≡ starts_with key (take (at + i - at) (drop at text))) where
       begun_is : starts_with key (line_of (drop at text)) ≡ t
@@ -82,13 +82,13 @@ module _ (key text : List ℕ) (at : ℕ) (here : at ≤ length text) (r : Found
           let shift : at + i - (at + length key) ≡ i - length key = omega arith in
           let next : at + i + 1 ≡ at + (i + 1) = omega arith in
           record {
-            ended = line_ends.stands;
+            ended = line_ends_here.stands;
             begun = begun_is ∙ f;
             start = refl;
-            ordered = omega (arith, ap length line_is);
+            ordered = omega (arith, ap length line_is_here);
             within = within;
-            value = rw (shift, line_is, drop_take (length key) i (drop at text), drop-drop (length key) at text);
-            rest = rw (next, line_ends.back, drop-drop (i + 1) at text);
+            value = rw (shift, line_is_here, drop_take (length key) i (drop at text), drop-drop (length key) at text);
+            rest = rw (next, line_ends_here.back, drop-drop (i + 1) at text);
           }
 
 -- What a reader of one line has found, from what stands behind the key.
@@ -108,8 +108,8 @@ module _ (key text : List ℕ) (at : ℕ) (r : Keyed) (found : ValueFound key te
         let v = value_at in
         ap length (sym v.value) ∙ length-take-le (end - from) (drop from text) (rw (length-drop from text) (omega arith))
 
-    pub some_text_here : (from ≡ end → ⊥) → is_empty (value_text key (line_of (drop at text))) ≡ false
-    some_text_here n = let v = value_at in not_empty (value_text key (line_of (drop at text))) (omega (arith, value_length_here))
+    pub some_text : (from ≡ end → ⊥) → is_empty (value_text key (line_of (drop at text))) ≡ false
+    some_text n = let v = value_at in not_empty (value_text key (line_of (drop at text))) (omega (arith, value_length_here))
 
     pub no_text : from ≡ end → is_empty (value_text key (line_of (drop at text))) ≡ true
     no_text d = let v = value_at in empty_text (value_text key (line_of (drop at text))) (omega (arith, value_length_here))
@@ -205,16 +205,16 @@ module _ (text : List ℕ) (r : Found) (found : FoundIn comma text r) where
   no_comma e = rw (behind_nowhere comma text (subst (λ f. FoundIn comma text f) e found), and-false)
 
   module _ (i : ℕ) (e : r ≡ Found.At i) where
-    pub comma_at_here : FirstAt comma text i
-    comma_at_here = subst (λ f. FoundIn comma text f) e found
+    pub comma_at_lem : FirstAt comma text i
+    comma_at_lem = subst (λ f. FoundIn comma text f) e found
 
     pub behind_all : take (length text - (i + 1)) (drop (i + 1) text) ≡ behind comma text
-    behind_all = take_all (length text - (i + 1)) (drop (i + 1) text) (rw (length-drop (i + 1) text) (omega arith)) ∙ sym comma_at_here.back
+    behind_all = take_all (length text - (i + 1)) (drop (i + 1) text) (rw (length-drop (i + 1) text) (omega arith)) ∙ sym comma_at_lem.back
 
     module _ (q : Number) (reads : NumberFound (take i text) q) where
       pub left_bad : q ≡ Number.Bad → is_pair text ≡ false
       unfolding is_pair
-      left_bad f = rw (comma_at_here.front, subst (λ k. NumberFound (take i text) k) f reads)
+      left_bad f = rw (comma_at_lem.front, subst (λ k. NumberFound (take i text) k) f reads)
 
       module _ (p : Number) (reads' : NumberFound (take (length text - (i + 1)) (drop (i + 1) text)) p) where
         pub right_bad : p ≡ Number.Bad → is_pair text ≡ false
@@ -227,8 +227,8 @@ module _ (text : List ℕ) (r : Found) (found : FoundIn comma text r) where
             let left : NumberIs (take i text) a = subst (λ k. NumberFound (take i text) k) f reads in
             let right : NumberIs (behind comma text) b = subst (λ t. NumberIs t b) behind_all (subst (λ k. NumberFound (take (length text - (i + 1)) (drop (i + 1) text)) k) g reads') in
             record {
-              good = rw (comma_at_here.front, left.good, right.good);
-              left = rw comma_at_here.front left.value;
+              good = rw (comma_at_lem.front, left.good, right.good);
+              left = rw comma_at_lem.front left.value;
               right = right.value;
             }
 
@@ -239,9 +239,9 @@ module _ (text : List ℕ) (r : Found) (found : FoundIn comma text r) where
   no_comma_three e = rw (behind_nowhere comma text (subst (λ f. FoundIn comma text f) e found), and-false)
 
   module _ (i : ℕ) (e : r ≡ Found.At i) (q : Number) (reads : NumberFound (take i text) q) where
-    pub first_bad_here : q ≡ Number.Bad → is_triple text ≡ false
+    pub first_bad_lem : q ≡ Number.Bad → is_triple text ≡ false
     unfolding is_triple
-    first_bad_here f = rw ((comma_at_here text r found i e).front, subst (λ k. NumberFound (take i text) k) f reads)
+    first_bad_lem f = rw ((comma_at_lem text r found i e).front, subst (λ k. NumberFound (take i text) k) f reads)
 
     module _ (p : Pair) (reads' : PairFound (take (length text - (i + 1)) (drop (i + 1) text)) p) where
       pub rest_bad : p ≡ Pair.Bad → is_triple text ≡ false
@@ -254,8 +254,8 @@ module _ (text : List ℕ) (r : Found) (found : FoundIn comma text r) where
           let left : NumberIs (take i text) a = subst (λ k. NumberFound (take i text) k) f reads in
           let pair : PairIs (behind comma text) b c = subst (λ t. PairIs t b c) (behind_all text r found i e) (subst (λ k. PairFound (take (length text - (i + 1)) (drop (i + 1) text)) k) g reads') in
           record {
-            good = rw ((comma_at_here text r found i e).front, left.good, pair.good);
-            left = rw (comma_at_here text r found i e).front left.value;
+            good = rw ((comma_at_lem text r found i e).front, left.good, pair.good);
+            left = rw (comma_at_lem text r found i e).front left.value;
             middle = pair.left;
             right = pair.right;
           }

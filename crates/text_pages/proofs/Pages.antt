@@ -218,8 +218,8 @@ module _ (page₀ : List ℕ) (at most : ℕ) (all : List ℕ) (lines : ℕ) (ro
           later = w.later ∙ drop_more next last page page₀ (omega (arith, w.after)) p.later;
         }
 
-    pub line_put_here : Put page next text m page' last → LinesPut page₀ at most all lines rest page' last (i + 1)
-    line_put_here q = line_wrote (q.room (omega (arith, line_room l)))
+    pub line_put : Put page next text m page' last → LinesPut page₀ at most all lines rest page' last (i + 1)
+    line_put q = line_wrote (q.room (omega (arith, line_room l)))
 
   pub lines_put : lines ≤ i → left ≡ [] → Wrote page₀ at all (lines * most) page next
   lines_put l none =

@@ -18,7 +18,7 @@ use Rattle.text_lines.specs.declared.Keyed.{Keyed}
 use Rattle.text_lines.specs.declared.Lines.{Lines}
 use Rattle.text_lines.specs.Lines.{line_of, first_bad_of}
 use Rattle.text_lines.specs.Found.{ValueAt, ValueFound, Passed, LinesFound, LinesPassed, LineBad}
-use Rattle.text_lines.proofs.Passing.{value-at, line-passed, unkeyed}
+use Rattle.text_lines.proofs.Passing.{value_at, line_passed, unkeyed}
 use Rattle.text_paths.specs.declared.PathLine.{PathLine}
 use Rattle.text_paths.specs.Paths.{slash, names_from, is_path, slashes_of, asked_path, is_asked, lines_from, line_count, most_lines, paths_verdict}
 use Rattle.text_paths.specs.Rows.{PathAt, PathFound}
@@ -71,9 +71,9 @@ module _ (text : List ℕ) (at end : ℕ) (ordered : at ≤ end) (within : end �
       let z : end - at ≡ suc (end - suc at) = omega arith in
       rw (z, drop-cons text at 0 (omega arith))
 
-  pub one_before_here : (at ≡ end → ⊥) → get_or text at 0 ≡ slash → at + 1 ≡ at + slashes_of (take (end - at) (drop at text))
+  pub one_before : (at ≡ end → ⊥) → get_or text at 0 ≡ slash → at + 1 ≡ at + slashes_of (take (end - at) (drop at text))
   unfolding slashes_of
-  one_before_here n e = rw (part_cons n, eq-eqb (get_or text at 0) slash e)
+  one_before n e = rw (part_cons n, eq-eqb (get_or text at 0) slash e)
 
   pub no_slash : (at ≡ end → ⊥) → (get_or text at 0 ≡ slash → ⊥) → at ≡ at + slashes_of (take (end - at) (drop at text))
   unfolding slashes_of
@@ -98,20 +98,20 @@ module _ (text : List ℕ) (at : ℕ) (r : Keyed) (found : ValueFound [] text at
 
   module _ (start end : ℕ) (e : r ≡ Keyed.Text start end) where
     pub line_bounds : (start ≤ end) × (end ≤ length text)
-    line_bounds = let v = value-at [] text at r found start end e in (omega (arith, v.ordered), omega (arith, v.within))
+    line_bounds = let v = value_at [] text at r found start end e in (omega (arith, v.ordered), omega (arith, v.within))
 
     start_is : start ≡ at
-    start_is = omega (arith, (value-at [] text at r found start end e).start)
+    start_is = omega (arith, (value_at [] text at r found start end e).start)
 
-    line_is : take (end - start) (drop start text) ≡ line_of (drop at text)
-    line_is = (value-at [] text at r found start end e).value
+    line_is_here : take (end - start) (drop start text) ≡ line_of (drop at text)
+    line_is_here = (value_at [] text at r found start end e).value
 
     line_size : end ≡ at + length (line_of (drop at text))
     line_size =
-        let v = value-at [] text at r found start end e in
+        let v = value_at [] text at r found start end e in
         let s = start_is in
         let size : length (take (end - start) (drop start text)) ≡ end - start = length-take-le (end - start) (drop start text) (rw (length-drop start text) (omega (arith, v.within))) in
-        let same = ap length line_is in
+        let same = ap length line_is_here in
         omega (arith, v.ordered)
 
     module _ (from : ℕ) (from_is : from ≡ start + slashes_of (take (end - start) (drop start text))) (t : Bool) (told : t ≡ is_path (take (end - from) (drop from text))) where
@@ -121,9 +121,9 @@ module _ (text : List ℕ) (at : ℕ) (r : Keyed) (found : ValueFound [] text at
       path_is : take (end - from) (drop from text) ≡ asked_path (line_of (drop at text))
       unfolding asked_path
       path_is =
-          let shift : end - from ≡ end - start - slashes_of (line_of (drop at text)) = rw (← line_is) (omega (arith, from_is)) in
-          let place : from ≡ start + slashes_of (line_of (drop at text)) = rw (← line_is) from_is in
-          rw (shift, place, ← drop-drop (slashes_of (line_of (drop at text))) start text, ← drop_take (slashes_of (line_of (drop at text))) (end - start) (drop start text), line_is)
+          let shift : end - from ≡ end - start - slashes_of (line_of (drop at text)) = rw (← line_is_here) (omega (arith, from_is)) in
+          let place : from ≡ start + slashes_of (line_of (drop at text)) = rw (← line_is_here) from_is in
+          rw (shift, place, ← drop-drop (slashes_of (line_of (drop at text))) start text, ← drop_take (slashes_of (line_of (drop at text))) (end - start) (drop start text), line_is_here)
 
       asked_is : is_asked (line_of (drop at text)) ≡ t
       unfolding is_asked
@@ -135,8 +135,8 @@ module _ (text : List ℕ) (at : ℕ) (r : Keyed) (found : ValueFound [] text at
       pub path_good : t ≡ true → PathAt text at from end
       path_good f =
           record {
-            passed = line-passed [] text at r found start end e is_asked (asked_is ∙ f);
-            start = from_is ∙ rw (line_is, start_is);
+            passed = line_passed [] text at r found start end e is_asked (asked_is ∙ f);
+            start = from_is ∙ rw (line_is_here, start_is);
             stop = line_size;
           }
 
@@ -198,9 +198,9 @@ module _ (text : List ℕ) (count : ℕ) (is : count ≡ line_count text) (r : L
       go zero h l = absurd (omega arith)
       go (suc n) h l = rw h
 
-  pub list_ended_here : (next : ℕ) → r ≡ Lines.End next → refuse_if (ltb most_lines count) TooManyReads ≡ paths_verdict text
+  pub list_ended : (next : ℕ) → r ≡ Lines.End next → refuse_if (ltb most_lines count) TooManyReads ≡ paths_verdict text
   unfolding paths_verdict
-  list_ended_here next e =
+  list_ended next e =
       let passed : LinesPassed is_asked text 0 count next = subst (λ k. LinesFound is_asked text 0 count k) e found in
       let none : first_bad_of is_asked (line_count text) text ≡ 0 = rw is at passed.none in
       go (ltb most_lines count) refl none

@@ -10,7 +10,7 @@ use lib.Seq.{drop-cons, drop-drop, set_at, append_snoc}
 use lib.Dec.{eqb}
 use Rattle.text_bytes.specs.Text.{line_feed, has, before, behind}
 use Rattle.text_lines.specs.Lines.{line_of, after_lines, line_after, each_of, first_bad_of, held_in}
-use Rattle.text_lines.proofs.Passing.{LinesSeen, lines_none, line-seen, line-bad-here, lines_passed}
+use Rattle.text_lines.proofs.Passing.{LinesSeen, lines_none, line_seen, line_bad_here, lines_passed}
 use Rattle.text_lines.proofs.Filling.{length_each, length_row}
 use Rattle.text_paths.specs.Paths.{slash, slashes_of, asked_path, is_asked, path_after}
 use Rattle.text_paths.proofs.Asked.{drop_take}
@@ -65,7 +65,7 @@ module _ (text : List ℕ) (count most : ℕ) (starts₀ ends₀ : List ℕ) (he
         let first : from ≡ path_start text i = q.start ∙ rw (line, ← begins) in
         let last : end ≡ path_end text i = q.stop ∙ rw (line, ← begins) in
         record {
-          seen = line-seen is_asked text 0 most here i p.seen l (end + 1) q.passed;
+          seen = line_seen is_asked text 0 most here i p.seen l (end + 1) q.passed;
           left = rw (p.left, first) (each_set (path_start text) i starts₀ (omega (arith, room)));
           right = rw (p.right, last) (each_set (path_end text) i ends₀ (omega (arith, space)));
         }
@@ -76,7 +76,7 @@ module _ (text : List ℕ) (count most : ℕ) (starts₀ ends₀ : List ℕ) (he
     pub paths_stopped : i < most → is_asked (line_of (drop here text)) ≡ false → PathsRead text count starts₀ ends₀ starts ends
     unfolding paths_filled
     paths_stopped l bad =
-        let first : first_bad_of is_asked most text ≡ suc i = (line-bad-here is_asked text 0 most here i p.seen l bad).first ∙ add-one i in
+        let first : first_bad_of is_asked most text ≡ suc i = (line_bad_here is_asked text 0 most here i p.seen l bad).first ∙ add-one i in
         all_filled (rw (← held, first))
 
     pub paths_ended : most ≤ i → PathsRead text count starts₀ ends₀ starts ends

@@ -25,13 +25,13 @@ use Rattle.walk.specs.Price.{priced_answer, priced_times, priced_legs, read_rows
 use Rattle.walk.specs.AnyHead.{priced_any_answer, read_any_rows_with, price_any_verdict, price_any_answer, price_any_rows}
 use Rattle.walk.specs.Rows.{ReadRows}
 use Rattle.walk.specs.Private.{Ascending, own_name, Behind, Priceable}
-use Rattle.runs.proofs.Search.{true_or_false, or_false_both, first-zero, first_all, first_same, first_either}
+use Rattle.runs.proofs.Search.{true_or_false, or_false_both, first_zero, first_all, first_same, first_either}
 use Rattle.runs.proofs.Joined.{Next, Neighbours, Agree, by_name, join_none, join_same, join_other, agree_joined}
 use Rattle.runs.proofs.Judged.{GoodRun, accepted_run}
-use Rattle.runs.proofs.Stops.{wants-agree, wants-length, want_at, run_sound}
+use Rattle.runs.proofs.Stops.{wants_agree, wants_length, want_at_lem, run_sound}
 use Rattle.runs.proofs.Entries.{length_list, entry_row}
 use Rattle.runs.proofs.AnyHead.{Right, sound_right, pulled_same, past_none, list_any_same, GoodAnyRun, good_any, judge_any_same}
-use Rattle.walk.proofs.Walks.{GoodList, accepted_list, rows_fit, list-fits, legs-in-rows, any-walkable}
+use Rattle.walk.proofs.Walks.{GoodList, accepted_list, rows_fit, list_fits_lem, legs_in_rows, any_walkable}
 
 module _ (m : ℕ) where
   -- Which names lie past the head is the same of the wants and of the stops joined of them.
@@ -89,16 +89,16 @@ module _ (m : ℕ) where
   above_first s ss up zero l = up 0 (omega arith)
   above_first s ss up (suc i) l = omega (arith, above_first s ss up i (omega arith), up (suc i) (omega arith))
 
-  none_past : (ss : List Stop) (f : ℕ) → ((i : ℕ) → i < length ss → f ≤ (stop_at ss i).file) → past_head m ss f ≡ false
+  none_past_here : (ss : List Stop) (f : ℕ) → ((i : ℕ) → i < length ss → f ≤ (stop_at ss i).file) → past_head m ss f ≡ false
   unfolding past_head
-  none_past [] f h = refl
-  none_past (s ∷ ss) f h = rw (le-ltb s.file f (h 0 (omega arith)), none_past ss f (λ i l. h (suc i) (omega arith)))
+  none_past_here [] f h = refl
+  none_past_here (s ∷ ss) f h = rw (le-ltb s.file f (h 0 (omega arith)), none_past_here ss f (λ i l. h (suc i) (omega arith)))
 
   own_first : (s : Stop) (ss : List Stop) (f : ℕ) → Ascending (s ∷ ss) → ((ltb s.file f && true) || past_head m ss f) ≡ ltb s.file f
   own_first s ss f up =
       elim (dec_lt s.file f) [
         | yes l ↦ rw (lt-ltb s.file f l)
-        | no n ↦ rw (le-ltb s.file f (omega arith), none_past ss f (λ i l. omega (arith, above_first s ss up i l)))
+        | no n ↦ rw (le-ltb s.file f (omega arith), none_past_here ss f (λ i l. omega (arith, above_first s ss up i l)))
       ]
 
   pub past_own : (ss : List Stop) → Ascending ss → (f : ℕ) → f ≤ 18446744073709551615 → past_head m ss f ≡ ltb (own_name m ss) f
@@ -156,7 +156,7 @@ module _ (m : ℕ) (ss : List Stop) (froms tos : List ℕ) where
 
     none_bad_here : (i : ℕ) → i < length (list_of froms tos) → bad_entry_any m ss (list_of froms tos) i ≡ false
     unfolding list_verdict_any first_bad_entry_any
-    none_bad_here i l = first-zero (bad_entry_any m ss (list_of froms tos)) (length (list_of froms tos)) (accepts_at _ BadEntry refl (all_accept checks e).1.0) i l
+    none_bad_here i l = first_zero (bad_entry_any m ss (list_of froms tos)) (length (list_of froms tos)) (accepts_at _ BadEntry refl (all_accept checks e).1.0) i l
 
     by_rules : refuses (list_verdict ss froms tos) ≡ false
     unfolding list_verdict first_bad_entry
@@ -176,21 +176,21 @@ module _ (r : Run) (good : GoodAnyRun r) (froms tos : List ℕ) (g : GoodList (s
 
   behind : Behind r.head r.starts r.aggregates r.numbers froms
   behind i j l h less =
-      let is = want_at r.starts r.lengths r.aggregates r.numbers r.counts same j h in
-      let on = sym (past_joined r.head (want_stops_of r) (wants-agree r.starts r.lengths r.aggregates r.numbers r.counts) (get_or froms i 0)) ∙ clear i l in
-      let size = wants-length r.starts r.lengths r.aggregates r.numbers r.counts same in
+      let is = want_at_lem r.starts r.lengths r.aggregates r.numbers r.counts same j h in
+      let on = sym (past_joined r.head (want_stops_of r) (wants_agree r.starts r.lengths r.aggregates r.numbers r.counts) (get_or froms i 0)) ∙ clear i l in
+      let size = wants_length r.starts r.lengths r.aggregates r.numbers r.counts same in
       rw is at (past_each r.head (want_stops_of r) (get_or froms i 0) on j (omega (arith, size)) (rw is less))
 
   pub priceable : Priceable r froms tos
   priceable =
       record {
         fit = rows_fit (lifted r) good.run froms tos g;
-        few = list-fits (lifted r) good.run froms tos g;
+        few = list_fits_lem (lifted r) good.run froms tos g;
         behind = behind;
         equal = same;
         counted = good.run.wants.reads;
-        within = any-walkable (lifted r) good.run froms tos g r.head good.near;
-        legs = λ reach is. legs-in-rows (lifted r) good.run froms tos g r.head reach is;
+        within = any_walkable (lifted r) good.run froms tos g r.head good.near;
+        legs = λ reach is. legs_in_rows (lifted r) good.run froms tos g r.head reach is;
       }
 
 -- Of a run that 01 accepts: nothing is pulled, so the numbers are the same, and its list can be priced.
@@ -224,9 +224,9 @@ module _ (r : Run) (froms tos : List ℕ) (rows : ReadRows) (other : (price_verd
       (λ (ok : refuses (judge_of r) ≡ false). true≢false (sym (ap is_refusal is) ∙ ok))
       (true_or_false (refuses (judge_of r))))
 
-  verdict_same : price_any_verdict r froms tos rows ≡ price_verdict r froms tos rows
+  verdict_same_here : price_any_verdict r froms tos rows ≡ price_verdict r froms tos rows
   unfolding price_verdict price_any_verdict
-  verdict_same =
+  verdict_same_here =
       ⊎_elim
       (λ (bad : refuses (judge_of r) ≡ true). rw (judged_same, bad))
       (λ (ok : refuses (judge_of r) ≡ false). rw (judged_same, list_any_same r.head (stops_of r) (right r (accepted_run r ok)) froms tos))
@@ -240,16 +240,16 @@ module _ (r : Run) (froms tos : List ℕ) (rows : ReadRows) (other : (price_verd
   unfolding price_any_answer price_answer price_any_rows price_rows
   price_any_same =
       ⊎_elim
-      (λ (bad : refuses (price_verdict r froms tos rows) ≡ true). (rw (verdict_same, bad), rw (verdict_same, bad)))
+      (λ (bad : refuses (price_verdict r froms tos rows) ≡ true). (rw (verdict_same_here, bad), rw (verdict_same_here, bad)))
       (λ (ok : refuses (price_verdict r froms tos rows) ≡ false).
-      (rw (verdict_same, ok) (priced_same r (accepted_good ok) (list_of froms tos)), rw (verdict_same, ok) (rows_same r (accepted_good ok) (list_of froms tos) rows)))
+      (rw (verdict_same_here, ok) (priced_same r (accepted_good ok) (list_of froms tos)), rw (verdict_same_here, ok) (rows_same r (accepted_good ok) (list_of froms tos) rows)))
       (true_or_false (refuses (price_verdict r froms tos rows)))
 
 -- A list that is well formed for the head is one by 01's rules; and the pricer refuses no such list, lent rows long enough.
 pub any_formed : (m : ℕ) (ss : List Stop) (list : List Detour) → WellFormedAny m ss list → WellFormed ss list
 unfolding first_bad_entry_any first_bad_entry
 any_formed m ss list w =
-    first_all (bad_entry ss list) (length list) (λ i l. (or_false_both (bad_entry ss list i) _ (first-zero (bad_entry_any m ss list) (length list) w i l)).0)
+    first_all (bad_entry ss list) (length list) (λ i l. (or_false_both (bad_entry ss list i) _ (first_zero (bad_entry_any m ss list) (length list) w i l)).0)
 
 pub any_priced : (r : Run) (froms tos : List ℕ) (rows : ReadRows) → refuses (judge_any_of r) ≡ false → length froms ≡ length tos → WellFormedAny r.head (stops_of r) (list_of froms tos)
     → length r.numbers ≤ length rows.times → length r.numbers ≤ length rows.legs → refuses (price_any_verdict r froms tos rows) ≡ false

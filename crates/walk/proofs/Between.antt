@@ -16,7 +16,7 @@ use Rattle.runs.specs.Private.{SoundTable, InTable}
 use Rattle.runs.specs.AnyHead.{smaller}
 use Rattle.walk.specs.Private.{leg_start, right_of, detour_legs, Tabled, ListFits, read_by_number}
 use Rattle.runs.proofs.Search.{ltb_same, leb_not_ltb}
-use Rattle.runs.proofs.Members.{first_stays, first_below, first-begins, last-above, last_within_lem, member-last, same-last, same-or-apart}
+use Rattle.runs.proofs.Members.{first_stays, first_below, first_begins, last_above, last_within_lem, member_last, same_last, same_or_apart}
 use Rattle.runs.proofs.Stops.{first_file_lem}
 use Rattle.runs.proofs.AnyHead.{smaller_is, smaller_above}
 use Rattle.runs.proofs.Table.{table_file, ends_rise, end_before_start}
@@ -31,8 +31,8 @@ module _ (starts lengths : List ℕ) (t : SoundTable starts lengths) where
       let apart = end_before_start starts lengths t i j l h in
       omega (arith, apart, (table_file starts lengths t i (omega arith)).long)
 
-  starts_rise : (i j : ℕ) → i ≤ j → j < length starts → get_or starts i 0 ≤ get_or starts j 0
-  starts_rise i j l h = elim (dec_lt i j) [ yes a ↦ omega (arith, start_left i j a h) | no n ↦ let e : i ≡ j = omega arith in rw e (omega arith) ]
+  starts_rise_here : (i j : ℕ) → i ≤ j → j < length starts → get_or starts i 0 ≤ get_or starts j 0
+  starts_rise_here i j l h = elim (dec_lt i j) [ yes a ↦ omega (arith, start_left i j a h) | no n ↦ let e : i ≡ j = omega arith in rw e (omega arith) ]
 
   end_left : (i j : ℕ) → i < j → j < length starts → end_at starts lengths i < end_at starts lengths j
   end_left i j l h =
@@ -42,24 +42,24 @@ module _ (starts lengths : List ℕ) (t : SoundTable starts lengths) where
 -- Of two first entries the left one's aggregate ends first.
 module _ (aggregates : List ℕ) where
   first_again : (i : ℕ) → first_member aggregates (first_member aggregates i) ≡ first_member aggregates i
-  first_again i = first_stays aggregates (first_member aggregates i) (first-begins aggregates i)
+  first_again i = first_stays aggregates (first_member aggregates i) (first_begins aggregates i)
 
   last_again : (i : ℕ) → last_member aggregates (first_member aggregates i) ≡ last_member aggregates i
-  last_again i = member-last aggregates i (first_member aggregates i) (omega arith) (omega (arith, first_below aggregates i, last-above aggregates i))
+  last_again i = member_last aggregates i (first_member aggregates i) (omega arith) (omega (arith, first_below aggregates i, last_above aggregates i))
 
   lasts_rise : (i j : ℕ) → first_member aggregates i ≤ j → last_member aggregates i ≤ last_member aggregates j
   lasts_rise i j l =
       ⊎_elim
-      (λ e. omega (arith, last_again i, same-last aggregates (first_member aggregates i) j e))
-      (λ a. omega (arith, last_again i, a, first_below aggregates j, last-above aggregates j))
-      (same-or-apart aggregates (first_member aggregates i) j l)
+      (λ e. omega (arith, last_again i, same_last aggregates (first_member aggregates i) j e))
+      (λ a. omega (arith, last_again i, a, first_below aggregates j, last_above aggregates j))
+      (same_or_apart aggregates (first_member aggregates i) j l)
 
   last_left : (i j : ℕ) → goes_on aggregates i ≡ false → i < first_member aggregates j → last_member aggregates i < last_member aggregates j
   last_left i j f l =
       ⊎_elim
       (λ e. absurd (omega (arith, e, first_again j, first_stays aggregates i f)))
-      (λ a. omega (arith, a, first_again j, first_below aggregates j, last-above aggregates j))
-      (same-or-apart aggregates i (first_member aggregates j) (omega arith))
+      (λ a. omega (arith, a, first_again j, first_below aggregates j, last_above aggregates j))
+      (same_or_apart aggregates i (first_member aggregates j) (omega arith))
 
 -- A detour between two names reads a file whose stop's name lies between them, and no other.
 module _ (starts lengths aggregates : List ℕ) (t : Tabled starts lengths aggregates) (f : ℕ) (named : InTable starts f) where
@@ -75,7 +75,7 @@ module _ (starts lengths aggregates : List ℕ) (t : Tabled starts lengths aggre
   left_by_number m a n e behind =
       rw (first_stays aggregates (a - 1) e)
       (leb_same (smaller (get_or starts (a - 1) 0) m) (get_or starts g 0) a (suc g)
-      (λ l. elim (dec_lt (suc g) a) [ yes y ↦ y | no x ↦ absurd (omega (arith, l, (smaller_is (get_or starts (a - 1) 0) m).first, starts_rise starts lengths t.sound (a - 1) g (omega arith) (omega (arith, first_below aggregates (f - 1), named.least, named.most)))) ])
+      (λ l. elim (dec_lt (suc g) a) [ yes y ↦ y | no x ↦ absurd (omega (arith, l, (smaller_is (get_or starts (a - 1) 0) m).first, starts_rise_here starts lengths t.sound (a - 1) g (omega arith) (omega (arith, first_below aggregates (f - 1), named.least, named.most)))) ])
       (λ l. smaller_above (get_or starts g 0) (get_or starts (a - 1) 0) m (start_left starts lengths t.sound g (a - 1) (omega arith) (omega (arith, n.least, n.most))) (behind (omega (arith, l, first_file_lem aggregates f named.least))))
       ∙ ap (leb a) (sym (first_file_lem aggregates f named.least)))
 

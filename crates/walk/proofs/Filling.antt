@@ -18,7 +18,7 @@ use Rattle.walk.specs.Private.{leg_at, Walkable, read_of}
 use Rattle.runs.proofs.Search.{true_or_false}
 use Rattle.runs.proofs.Accepted.{total_drop}
 use Rattle.runs.proofs.Joined.{Places}
-use Rattle.runs.proofs.Stops.{wants-length, wants-drop}
+use Rattle.runs.proofs.Stops.{wants_length, wants_drop}
 use Rattle.walk.proofs.Steps.{set_off_clock, read_inside}
 use Rattle.walk.proofs.Joins.{time_same, leg_same}
 use Rattle.walk.proofs.Legs.{leg_most}
@@ -114,15 +114,15 @@ pub record Filling (gs : List Leg) (head turn : ℕ) (stops : List Stop) (counts
 -- Nothing filled yet.
 pub filling_start : (gs : List Leg) (head turn : ℕ) (stops : List Stop) (counts times legs : List ℕ) → Filling gs head turn stops counts times legs times legs 0 0
 filling_start gs head turn stops counts times legs =
-    record { within = omega arith; timed = row_start _ stops times; numbered = row_start _ stops legs; whole = added stops; small = reads_left counts }
+    record { within = omega arith; timed = row_start _ stops times; numbered = row_start _ stops legs; whole = added stops; small = reads_left_here counts }
   where
     added : (stops : List Stop) → 0 + sum_of turn (head_at head) gs (drop 0 stops) ≡ sum_of turn (head_at head) gs stops
     added [] = omega arith
     added (s ∷ ss) = omega arith
 
-    reads_left : (counts : List ℕ) → 0 + time_most * total (drop 0 counts) ≤ time_most * total counts
-    reads_left [] = omega arith
-    reads_left (c ∷ cs) = omega arith
+    reads_left_here : (counts : List ℕ) → 0 + time_most * total (drop 0 counts) ≤ time_most * total counts
+    reads_left_here [] = omega arith
+    reads_left_here (c ∷ cs) = omega arith
 
 module _ (starts lengths aggregates ns cs : List ℕ) (equal : length cs ≡ length ns) (gs : List Leg) (head turn : ℕ) (times₀ legs₀ times legs : List ℕ) (sum i : ℕ)
     (p : Filling gs head turn (want_stops starts lengths aggregates ns cs) cs times₀ legs₀ times legs sum i) where
@@ -151,14 +151,14 @@ module _ (starts lengths aggregates ns cs : List ℕ) (equal : length cs ≡ len
     sum_fits few = omega (arith, product_small, total_drop cs i (omega arith), p.small)
 
     next : drop i (want_stops starts lengths aggregates ns cs) ≡ stop_of starts lengths aggregates (get_or ns i 0) (get_or cs i 0) ∷ drop (i + 1) (want_stops starts lengths aggregates ns cs)
-    next = rw add-one (wants-drop starts lengths aggregates ns cs equal i l)
+    next = rw add-one (wants_drop starts lengths aggregates ns cs equal i l)
 
     pub filled_one : i < length times → i < length legs
         → Filling gs head turn (want_stops starts lengths aggregates ns cs) cs times₀ legs₀ (set times i t.time) (set legs i t.leg) (sum + get_or cs i 0 * t.time) (i + 1)
     unfolding sum_of
     filled_one h k =
         record {
-          within = omega (arith, wants-length starts lengths aggregates ns cs equal);
+          within = omega (arith, wants_length starts lengths aggregates ns cs equal);
           timed = row_on _ _ times₀ times i p.timed _ next t.time is_time h;
           numbered = row_on _ _ legs₀ legs i p.numbered _ next t.leg is_leg k;
           whole = rw is_time (omega (arith, rw next at p.whole));
@@ -167,10 +167,10 @@ module _ (starts lengths aggregates ns cs : List ℕ) (equal : length cs ≡ len
 
   -- All filled.
   none_left : length ns ≤ i → drop i (want_stops starts lengths aggregates ns cs) ≡ []
-  none_left h = let past : length (want_stops starts lengths aggregates ns cs) ≤ i = omega (arith, wants-length starts lengths aggregates ns cs equal) in drop_of_length-le (want_stops starts lengths aggregates ns cs) past
+  none_left h = let past : length (want_stops starts lengths aggregates ns cs) ≤ i = omega (arith, wants_length starts lengths aggregates ns cs equal) in drop_of_length-le (want_stops starts lengths aggregates ns cs) past
 
   all_done : length ns ≤ i → length ns ≡ i
-  all_done h = omega (arith, p.within, wants-length starts lengths aggregates ns cs equal)
+  all_done h = omega (arith, p.within, wants_length starts lengths aggregates ns cs equal)
 
   pub filled_times : length ns ≤ i → times ≡ times_of turn (head_at head) gs (want_stops starts lengths aggregates ns cs) ++ drop (length ns) times₀
   unfolding times_of

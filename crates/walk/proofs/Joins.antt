@@ -11,8 +11,8 @@ use Rattle.runs.specs.Run.{Run, Stop, merged, join_to, joined, want_stops_of, st
 use Rattle.runs.specs.Lists.{Detour}
 use Rattle.walk.specs.Walk.{after_leg, served, ServesAll, time_of, leg_from, sum_of}
 use Rattle.walk.specs.Detours.{start_of, end_of, leg_of, unread_end, sweep_end, last_sweep, legs_of}
-use Rattle.runs.proofs.Joined.{Next, Neighbours, Places, Agree, by_name, join_none, join_same, join_other, agree_joined, place_by, place-joined, weighed, weighed-joined}
-use Rattle.runs.proofs.Stops.{wants-agree}
+use Rattle.runs.proofs.Joined.{Next, Neighbours, Places, Agree, by_name, join_none, join_same, join_other, agree_joined, place_by, place_joined, weighed, weighed_joined}
+use Rattle.runs.proofs.Stops.{wants_agree}
 
 -- Whether, when and in which leg a stop is read hangs on its places alone.
 pub served_same : (gs : List Leg) (s t : Stop) → Places s t → served gs s ≡ served gs t
@@ -86,10 +86,10 @@ end_by [] f = refl
 end_by (s ∷ ss) f = rw (end_by ss f)
 
 pub start_joined : (ss : List Stop) (f : ℕ) → start_of (joined ss) f ≡ start_of ss f
-start_joined ss f = start_by (joined ss) f ∙ place-joined (λ s. s.start) (λ s t. refl) ss f ∙ sym (start_by ss f)
+start_joined ss f = start_by (joined ss) f ∙ place_joined (λ s. s.start) (λ s t. refl) ss f ∙ sym (start_by ss f)
 
 pub end_joined : (ss : List Stop) (f : ℕ) → end_of (joined ss) f ≡ end_of ss f
-end_joined ss f = end_by (joined ss) f ∙ place-joined (λ s. s.end) (λ s t. refl) ss f ∙ sym (end_by ss f)
+end_joined ss f = end_by (joined ss) f ∙ place_joined (λ s. s.end) (λ s t. refl) ss f ∙ sym (end_by ss f)
 
 -- So a list has the same legs.
 detours_joined : (ss : List Stop) (list : List Detour) → map (leg_of (joined ss)) list ≡ map (leg_of ss) list
@@ -159,9 +159,9 @@ module _ (price : ℕ) (h : Head) (gs : List Leg) where
   pub sum_joined : (ss : List Stop) → Neighbours Agree ss → sum_of price h gs (joined ss) ≡ sum_of price h gs ss
   sum_joined ss a =
       sum_weighed price h gs (joined ss)
-      ∙ weighed-joined (time_of price h gs) (time_same price gs h) ss a
+      ∙ weighed_joined (time_of price h gs) (time_same price gs h) ss a
       ∙ sym (sum_weighed price h gs ss)
 
   -- The sum of a movement over a run's stops is that over its wants.
   pub run_sum_joined : (r : Run) → sum_of price h gs (stops_of r) ≡ sum_of price h gs (want_stops_of r)
-  run_sum_joined r = sum_joined (want_stops_of r) (wants-agree r.starts r.lengths r.aggregates r.numbers r.counts)
+  run_sum_joined r = sum_joined (want_stops_of r) (wants_agree r.starts r.lengths r.aggregates r.numbers r.counts)

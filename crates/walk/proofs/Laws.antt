@@ -20,10 +20,10 @@ use Rattle.walk.specs.Private.{Walkable}
 use Rattle.refusals.proofs.Verdicts.{refuses}
 use Rattle.runs.proofs.Judged.{accepted_run}
 use Rattle.runs.proofs.Joined.{reads_of}
-use Rattle.runs.proofs.Stops.{stops-reads}
+use Rattle.runs.proofs.Stops.{stops_reads}
 use Rattle.runs.proofs.AnyHead.{GoodAnyRun, accepted_any}
-use Rattle.walk.proofs.Walks.{accepted_list, run-walkable, any-walkable}
-use Rattle.walk.proofs.AnyHead.{any-good}
+use Rattle.walk.proofs.Walks.{accepted_list, run_walkable, any_walkable}
+use Rattle.walk.proofs.AnyHead.{any_good}
 use Rattle.walk.proofs.Filling.{time_most, time_bound, end_bound}
 
 -- A file read by the first leg from its own start has time m − l + U + s.
@@ -40,11 +40,11 @@ sum_within turn head gs w (s ∷ ss) = omega (arith, sum_within turn head gs w s
 
 module _ (r : Run) (froms tos : List ℕ) (run : refuses (judge_of r) ≡ false) (list : refuses (list_verdict (stops_of r) froms tos) ≡ false) where
   within : Walkable (legs_of (stops_of r) (list_of froms tos)) r.head r.turn
-  within = run-walkable r (accepted_run r run) froms tos (accepted_list (stops_of r) froms tos list)
+  within = run_walkable r (accepted_run r run) froms tos (accepted_list (stops_of r) froms tos list)
 
   pub sum_below_lem : (priced_answer r (list_of froms tos)).sum < 2 ^ 58
   unfolding priced_answer
-  sum_below_lem = omega (arith, sum_within r.turn r.head _ within (stops_of r), stops-reads r (accepted_run r run), (accepted_run r run).wants.reads)
+  sum_below_lem = omega (arith, sum_within r.turn r.head _ within (stops_of r), stops_reads r (accepted_run r run), (accepted_run r run).wants.reads)
 
   pub finish_below : (priced_answer r (list_of froms tos)).finish < 2 ^ 58
   unfolding priced_answer
@@ -59,8 +59,8 @@ module _ (r : Run) (froms tos : List ℕ) (run : refuses (judge_any_of r) ≡ fa
   good = accepted_any r run
 
   within_any : Walkable (run_legs r (list_of froms tos)) r.head r.turn
-  within_any = any-walkable (lifted r) good.run froms tos (any-good r.head (stops_of r) froms tos list) r.head good.near
+  within_any = any_walkable (lifted r) good.run froms tos (any_good r.head (stops_of r) froms tos list) r.head good.near
 
   pub sum_any_below : (priced_any_answer r (list_of froms tos)).sum < 2 ^ 58
   unfolding priced_any_answer
-  sum_any_below = omega (arith, sum_within r.turn r.head _ within_any (stops_of r), stops-reads (lifted r) good.run, good.run.wants.reads)
+  sum_any_below = omega (arith, sum_within r.turn r.head _ within_any (stops_of r), stops_reads (lifted r) good.run, good.run.wants.reads)

@@ -32,13 +32,13 @@ module _ (m : ℕ) (starts lengths aggregates : List ℕ) where
   length_detours (a ∷ froms) [] e = absurd (omega arith)
   length_detours (a ∷ froms) (b ∷ tos) e = ap suc (length_detours froms tos (omega arith))
 
-  pub detour_leg_here : (froms tos : List ℕ) → length froms ≡ length tos → (i : ℕ) → i < length froms
+  pub detour_leg_lem : (froms tos : List ℕ) → length froms ≡ length tos → (i : ℕ) → i < length froms
       → leg_at (detour_legs m starts lengths aggregates froms tos) i ≡ record { left = leg_start m starts aggregates (get_or froms i 0); right = right_of starts lengths aggregates (get_or tos i 0) }
   unfolding detour_legs
-  detour_leg_here [] tos e i l = absurd (omega arith)
-  detour_leg_here (a ∷ froms) [] e i l = absurd (omega arith)
-  detour_leg_here (a ∷ froms) (b ∷ tos) e zero l = refl
-  detour_leg_here (a ∷ froms) (b ∷ tos) e (suc i) l = detour_leg_here froms tos (omega arith) i (omega arith)
+  detour_leg_lem [] tos e i l = absurd (omega arith)
+  detour_leg_lem (a ∷ froms) [] e i l = absurd (omega arith)
+  detour_leg_lem (a ∷ froms) (b ∷ tos) e zero l = refl
+  detour_leg_lem (a ∷ froms) (b ∷ tos) e (suc i) l = detour_leg_lem froms tos (omega arith) i (omega arith)
 
   sweep_count : (numbers : List ℕ) (reach : ℕ) → (length numbers ≡ 0 → ⊥) → length (sweep_legs m starts aggregates numbers reach) ≡ 1
   unfolding sweep_legs
@@ -62,34 +62,34 @@ module _ (m : ℕ) (starts lengths aggregates : List ℕ) where
   sweep_leg_here (n ∷ ns) reach l = (omega arith, refl)
 
   module _ (numbers froms tos : List ℕ) (reach : ℕ) (even : length froms ≡ length tos) where
-    legs_length : length (row_legs m starts lengths aggregates numbers froms tos reach) ≡ length froms + length (sweep_legs m starts aggregates numbers reach)
+    legs_length_here : length (row_legs m starts lengths aggregates numbers froms tos reach) ≡ length froms + length (sweep_legs m starts aggregates numbers reach)
     unfolding row_legs
-    legs_length = rw (length-append, length_detours froms tos even)
+    legs_length_here = rw (length-append, length_detours froms tos even)
 
     -- How many legs there are, with and without wants.
-    pub no_legs_here : length numbers ≡ 0 → length froms ≤ length numbers → 0 ≡ length (row_legs m starts lengths aggregates numbers froms tos reach)
-    no_legs_here none l = omega (arith, legs_length, sweep_none numbers reach none)
+    pub no_legs_lem : length numbers ≡ 0 → length froms ≤ length numbers → 0 ≡ length (row_legs m starts lengths aggregates numbers froms tos reach)
+    no_legs_lem none l = omega (arith, legs_length_here, sweep_none numbers reach none)
 
-    pub legs_count_here : (length numbers ≡ 0 → ⊥) → length froms + 1 ≡ length (row_legs m starts lengths aggregates numbers froms tos reach)
-    legs_count_here some = omega (arith, legs_length, sweep_count numbers reach some)
+    pub legs_count : (length numbers ≡ 0 → ⊥) → length froms + 1 ≡ length (row_legs m starts lengths aggregates numbers froms tos reach)
+    legs_count some = omega (arith, legs_length_here, sweep_count numbers reach some)
 
     pub legs_most : length (row_legs m starts lengths aggregates numbers froms tos reach) ≤ length froms + 1
-    legs_most = omega (arith, legs_length, sweep_most_here numbers reach)
+    legs_most = omega (arith, legs_length_here, sweep_most_here numbers reach)
 
     -- Which leg stands at an index: a detour, or the last sweep.
     pub leg_of_detour : (i : ℕ) → i < length froms
         → record { left = leg_start m starts aggregates (get_or froms i 0); right = right_of starts lengths aggregates (get_or tos i 0) } ≡ leg_at (row_legs m starts lengths aggregates numbers froms tos reach) i
     unfolding row_legs
     leg_of_detour i l =
-        sym (get_or-append (detour_legs m starts lengths aggregates froms tos) (sweep_legs m starts aggregates numbers reach) _ i (omega (arith, length_detours froms tos even)) ∙ detour_leg_here froms tos even i l)
+        sym (get_or-append (detour_legs m starts lengths aggregates froms tos) (sweep_legs m starts aggregates numbers reach) _ i (omega (arith, length_detours froms tos even)) ∙ detour_leg_lem froms tos even i l)
 
     pub leg_of_sweep : (i : ℕ) → length froms ≤ i → i < length (row_legs m starts lengths aggregates numbers froms tos reach)
         → (0 < length numbers)
         × (record { left = leg_start m starts aggregates (get_or numbers 0 0); right = reach } ≡ leg_at (row_legs m starts lengths aggregates numbers froms tos reach) i)
     unfolding row_legs
     leg_of_sweep i l h =
-        let one = sweep_leg_here numbers reach (omega (arith, legs_length)) in
-        let at : i ≡ length (detour_legs m starts lengths aggregates froms tos) + 0 = omega (arith, legs_length, length_detours froms tos even, sweep_most_here numbers reach) in
+        let one = sweep_leg_here numbers reach (omega (arith, legs_length_here)) in
+        let at : i ≡ length (detour_legs m starts lengths aggregates froms tos) + 0 = omega (arith, legs_length_here, length_detours froms tos even, sweep_most_here numbers reach) in
         (one.0, sym (rw at (get_or-append-add (detour_legs m starts lengths aggregates froms tos) (sweep_legs m starts aggregates numbers reach) 0 _ ∙ one.1)))
 
 -- The most that one leg can add to the clock: two turns and twice the tape.

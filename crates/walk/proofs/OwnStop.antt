@@ -14,8 +14,8 @@ use Rattle.refusals.specs.Refusals.{first_where, one_more}
 use Rattle.runs.specs.Run.{Stop, first_member, want_stops}
 use Rattle.runs.specs.Private.{earlier_of}
 use Rattle.walk.specs.Private.{left_of, own_name}
-use Rattle.runs.proofs.Search.{first_none, first_more, first-here, first_done, earlier_none, earlier_second, earlier_first}
-use Rattle.runs.proofs.Stops.{first_file_lem, wants-length, wants-drop}
+use Rattle.runs.proofs.Search.{first_none, first_more, first_here, first_done, earlier_none, earlier_second, earlier_first}
+use Rattle.runs.proofs.Stops.{first_file_lem, wants_length, wants_drop}
 
 -- Looking for the own stop: what is left decides, whatever the lengths and the counts are.
 pub record Looking (m : ℕ) (starts aggregates numbers : List ℕ) (i : ℕ) : Type 0 where
@@ -39,20 +39,20 @@ module _ (m : ℕ) (starts aggregates numbers : List ℕ) where
       own_here named at l cs e =
           add-one (first_member aggregates (get_or numbers i 0 - 1))
           ∙ sym (first_file_lem aggregates (get_or numbers i 0) named)
-          ∙ (rw (wants-drop starts l aggregates numbers cs e i h, le-leb m (left_of starts aggregates (get_or numbers i 0)) at) at (p.left l cs e))
+          ∙ (rw (wants_drop starts l aggregates numbers cs e i h, le-leb m (left_of starts aggregates (get_or numbers i 0)) at) at (p.left l cs e))
 
       pub looking_on : left_of starts aggregates (get_or numbers i 0) < m → Looking m starts aggregates numbers (i + 1)
       unfolding own_name
       looking_on past =
           record {
             within = omega arith;
-            left = λ l cs e. rw add-one (rw (wants-drop starts l aggregates numbers cs e i h, lt-leb m (left_of starts aggregates (get_or numbers i 0)) past) at (p.left l cs e));
+            left = λ l cs e. rw add-one (rw (wants_drop starts l aggregates numbers cs e i h, lt-leb m (left_of starts aggregates (get_or numbers i 0)) past) at (p.left l cs e));
           }
 
     pub own_nowhere : length numbers ≤ i → (l cs : List ℕ) → length cs ≡ length numbers → 18446744073709551615 ≡ own_name m (want_stops starts l aggregates numbers cs)
     unfolding own_name
     own_nowhere h l cs e =
-        let past : length (want_stops starts l aggregates numbers cs) ≤ i = omega (arith, wants-length starts l aggregates numbers cs e) in
+        let past : length (want_stops starts l aggregates numbers cs) ≤ i = omega (arith, wants_length starts l aggregates numbers cs e) in
         rw (drop_of_length-le (want_stops starts l aggregates numbers cs) past) at (p.left l cs e)
 
 -- Looking for an entry past it, before the one found already.
@@ -96,7 +96,7 @@ module _ (bad : ℕ → Bool) (n found : ℕ) where
     module _ (apart : i + 1 ≡ found → ⊥) where
       pub past_here : i < n → bad i ≡ true → i + 1 ≡ earlier_of found (first_where bad n)
       past_here l here =
-          rw (first-here bad i n p.none here l)
+          rw (first_here bad i n p.none here l)
           (⊎_elim
           (λ (z : found ≡ 0). rw z refl)
           (λ (h : i < found). earlier_second found (i + 1) (λ z. omega arith) (omega arith))

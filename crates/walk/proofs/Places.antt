@@ -22,8 +22,8 @@ use Rattle.walk.specs.Rows.{ReadRows}
 use Rattle.runs.proofs.Search.{true_or_false, or_false_both, first_within, first_before}
 use Rattle.refusals.proofs.Verdicts.{refuses, accepts_if}
 use Rattle.runs.proofs.Judged.{GoodRun, accepted_run, table_rows_fit}
-use Rattle.runs.proofs.Stops.{run_sound, stops-few}
-use Rattle.walk.proofs.Walks.{GoodEntry, good_entry, entries-few, entries_none}
+use Rattle.runs.proofs.Stops.{run_sound, stops_few}
+use Rattle.walk.proofs.Walks.{GoodEntry, good_entry, entries_few, entries_none}
 
 abbrev pub place_most : ℕ
 place_most = 4096
@@ -98,7 +98,7 @@ module _ (r : Run) (good : GoodRun r) (froms tos : List ℕ) where
       in
       by_cases
       (dec_lt 0 (length (stops_of r)))
-      (λ some. omega (arith, entries-few (stops_of r) r.head (run_sound r good) (list_of froms tos) i each some, stops-few r good, good.wants.few))
+      (λ some. omega (arith, entries_few (stops_of r) r.head (run_sound r good) (list_of froms tos) i each some, stops_few r good, good.wants.few))
       (λ none. omega (arith, entries_none (stops_of r) r.head (run_sound r good) (list_of froms tos) i each (omega arith)))
 
   list_near : (list_verdict (stops_of r) froms tos).place ≤ place_most

@@ -23,7 +23,7 @@ use Rattle.walk.specs.Private.{detour_legs, row_legs, Priceable}
 use Rattle.refusals.proofs.Verdicts.{refuses, first_refuses, first_passes, none_refuses, test_says, last_if, accepts_if}
 use Rattle.runs.proofs.Entries.{length_list}
 use Rattle.runs.proofs.Search.{or_false_both}
-use Rattle.walk.proofs.Joins.{run-sum-joined}
+use Rattle.walk.proofs.Joins.{run_sum_joined}
 
 -- What a pricer answers of: the verdicts of the run and of the list, k wants and the rows lent; and the answer and the rows where none refuses.
 pub record Parts : Type 0 where
@@ -55,9 +55,9 @@ module _ (p : Parts) where
   after_list = rows_verdict p ∷ []
 
   module _ (v : Verdict) (f : Bool) (v-is : v ≡ p.run) (f-is : f ≡ is_refusal v.refusal) where
-    pub run_refused_here : f ≡ true → (a : Answer) → a ≡ refusal_answer v → Answers p a p.rows
+    pub run_refused : f ≡ true → (a : Answer) → a ≡ refusal_answer v → Answers p a p.rows
     unfolding after_run
-    run_refused_here e a is = rw is (refused_so_here v (v-is ∙ first_refuses p.run after_run (test_says v-is f-is e)) (sym f-is ∙ e))
+    run_refused e a is = rw is (refused_so_here v (v-is ∙ first_refuses p.run after_run (test_says v-is f-is e)) (sym f-is ∙ e))
 
     pub run_accepts : f ≡ false → refuses p.run ≡ false
     run_accepts e = test_says v-is f-is e
@@ -67,22 +67,22 @@ module _ (p : Parts) where
     passes_run e = first_passes p.run after_run (test_says v-is f-is e)
 
     module _ (w : Verdict) (g : Bool) (w-is : w ≡ p.list) (g-is : g ≡ is_refusal w.refusal) where
-      pub list_refused_here : f ≡ false → g ≡ true → (a : Answer) → a ≡ refusal_answer w → Answers p a p.rows
+      pub list_refused_lem : f ≡ false → g ≡ true → (a : Answer) → a ≡ refusal_answer w → Answers p a p.rows
       unfolding after_run after_list
-      list_refused_here e d a is =
+      list_refused_lem e d a is =
           rw is (refused_so_here w (w-is ∙ first_refuses p.list after_list (test_says w-is g-is d) ∙ sym (passes_run e)) (sym g-is ∙ d))
 
-      pub list_accepts_here : g ≡ false → refuses p.list ≡ false
-      list_accepts_here d = test_says w-is g-is d
+      pub list_accepts : g ≡ false → refuses p.list ≡ false
+      list_accepts d = test_says w-is g-is d
 
       passes_list : f ≡ false → g ≡ false → verdict_of p ≡ first_of after_list
       unfolding after_run after_list
       passes_list e d = passes_run e ∙ first_passes p.list after_list (test_says w-is g-is d)
 
       module _ (x : Verdict) (k : Bool) (x-is : x ≡ refuse_if (short_read_rows p.wants p.rows) ShortRow) (k-is : k ≡ is_refusal x.refusal) where
-        pub rows_refused_here : f ≡ false → g ≡ false → k ≡ true → (a : Answer) → a ≡ refusal_answer x → Answers p a p.rows
+        pub rows_refused_lem : f ≡ false → g ≡ false → k ≡ true → (a : Answer) → a ≡ refusal_answer x → Answers p a p.rows
         unfolding after_list
-        rows_refused_here e d c a is =
+        rows_refused_lem e d c a is =
             rw is (refused_so_here x (last_if {b = short_read_rows p.wants p.rows} ShortRow refl x-is refl ∙ sym (passes_list e d)) (sym k-is ∙ c))
 
         -- Neither row is short.
@@ -115,9 +115,9 @@ module _ (r : Run) (froms tos : List ℕ) (rows : ReadRows) where
   unfolding price_answer price_rows price_verdict
   price_answers a out h = h
 
-  pub price_accepted_here : refuses (price_verdict r froms tos rows) ≡ false → price_verdict r froms tos rows ≡ accepted
+  pub price_accepted : refuses (price_verdict r froms tos rows) ≡ false → price_verdict r froms tos rows ≡ accepted
   unfolding price_verdict
-  price_accepted_here e = none_refuses (judge_of r ∷ list_verdict (stops_of r) froms tos ∷ refuse_if (short_read_rows (length r.numbers) rows) ShortRow ∷ []) e
+  price_accepted e = none_refuses (judge_of r ∷ list_verdict (stops_of r) froms tos ∷ refuse_if (short_read_rows (length r.numbers) rows) ShortRow ∷ []) e
 
   -- The pricer for a head anywhere.
   abbrev pub anyParts : Parts
@@ -151,5 +151,5 @@ module _ (r : Run) (froms tos : List ℕ) (rows : ReadRows) where
   unfolding priced_any_answer
   walk_numbers p to to_is sum sum_is_lem times times-are legs legs-are h h-is =
       let walk = p.legs to to_is in
-      let whole = sum_is_lem ∙ sym (run-sum-joined r.turn (head_at r.head) (row_legs r.head r.starts r.lengths r.aggregates r.numbers froms tos to) r) in
+      let whole = sum_is_lem ∙ sym (run_sum_joined r.turn (head_at r.head) (row_legs r.head r.starts r.lengths r.aggregates r.numbers froms tos to) r) in
       (rw (whole, h-is, walk, length_list froms tos p.fit.list.even), rw (times-are, legs-are, walk))

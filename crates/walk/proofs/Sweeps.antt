@@ -14,7 +14,7 @@ use Rattle.walk.specs.Walk.{served}
 use Rattle.walk.specs.Detours.{unread_end, sweep_end}
 use Rattle.walk.specs.Private.{right_of, read_by_number}
 use Rattle.runs.proofs.Search.{true_or_false}
-use Rattle.runs.proofs.Stops.{wants-length, want_at}
+use Rattle.runs.proofs.Stops.{wants_length, want_at_lem}
 use Rattle.walk.proofs.Joins.{served_same}
 
 module _ (gs : List Leg) where
@@ -118,10 +118,10 @@ module _ (aggregates ns froms tos : List ℕ) (i : ℕ) (p : ReadRight aggregate
   module _ (gs : List Leg) (starts lengths cs : List ℕ) (same : length cs ≡ length ns)
       (by : (j : ℕ) → j < length ns → served gs (stop_of starts lengths aggregates (get_or ns j 0) 0) ≡ read_by_number froms tos (first_file aggregates (get_or ns j 0))) where
     stop_is : (j : ℕ) → j < length ns → stop_at (want_stops starts lengths aggregates ns cs) j ≡ stop_of starts lengths aggregates (get_or ns j 0) (get_or cs j 0)
-    stop_is j b = want_at starts lengths aggregates ns cs same j b
+    stop_is j b = want_at_lem starts lengths aggregates ns cs same j b
 
     size : length (want_stops starts lengths aggregates ns cs) ≡ length ns
-    size = wants-length starts lengths aggregates ns cs same
+    size = wants_length starts lengths aggregates ns cs same
 
     served_at : (j : ℕ) → j < length ns → served gs (stop_at (want_stops starts lengths aggregates ns cs) j) ≡ read_by_number froms tos (first_file aggregates (get_or ns j 0))
     served_at j b = rw (stop_is j b) (served_same gs _ _ (record { start = refl; end = refl }) ∙ by j b)

@@ -21,19 +21,19 @@ use Rattle.walk.specs.Detours.{start_of, end_of, leg_of, sweep_end, last_sweep, 
 use Rattle.runs.specs.Private.{InTable}
 use Rattle.runs.specs.AnyHead.{pulled}
 use Rattle.walk.specs.Private.{left_of, leg_start, right_of, detour_legs, sweep_legs, row_legs, leg_at, RowsFit, Walkable}
-use Rattle.runs.proofs.Search.{first-zero, any-zero, or_false_both, true_or_false}
+use Rattle.runs.proofs.Search.{first_zero, any_zero, or_false_both, true_or_false}
 use Rattle.refusals.proofs.Verdicts.{refuses, all_accept, accepts_if, accepts_at}
 use Rattle.runs.proofs.Judged.{GoodRun, wants_named}
 use Rattle.runs.proofs.Sound.{Sound}
 use Rattle.runs.proofs.Members.{and_true_both, first_stays, first_below}
 use Rattle.runs.proofs.Joined.{wanted_joined}
-use Rattle.runs.proofs.Stops.{first_file_lem, want_at, wants-length, wants-agree, wanted_at, start-of-name, end-of-name, run_sound, stops-few}
-use Rattle.runs.proofs.Entries.{length_list, entry_row, wanted-named}
+use Rattle.runs.proofs.Stops.{first_file_lem, want_at_lem, wants_length, wants_agree, wanted_at, start_of_name, end_of_name, run_sound, stops_few}
+use Rattle.runs.proofs.Entries.{length_list, entry_row, wanted_named}
 use Rattle.runs.proofs.Formed.{start_to_end}
 use Rattle.runs.proofs.AnyHead.{smaller_is, pulled_length, pulled_at, wanted_pulled, leftmost_pulled, pulled_joined, pulled_agrees}
 use Rattle.walk.proofs.Joins.{start_by, end_by, start_joined, end_joined, legs_joined}
-use Rattle.walk.proofs.Sweeps.{sweeps-to}
-use Rattle.walk.proofs.Pulled.{start-pulled, end-pulled, detours-left, sweep-pulled}
+use Rattle.walk.proofs.Sweeps.{sweeps_to}
+use Rattle.walk.proofs.Pulled.{start_pulled, end_pulled, detours_left, sweep_pulled}
 
 -- An entry that is not bad.
 pub record GoodEntry (ss : List Stop) (list : List Detour) (i : ℕ) : Type 0 where
@@ -54,7 +54,7 @@ good_entry ss list i e =
       to_wanted = not-false _ two.1;
       ordered = ltb-false (entry_of list i).to (entry_of list i).from three.1;
       inner = leb-false (entry_of list i).from (leftmost ss) four.1;
-      falls = λ j l. leb-false (entry_of list j).from (entry_of list i).from (or_false_both _ _ (any-zero (λ k. bad_after (entry_of list k) (entry_of list i)) i all.1 j l)).0;
+      falls = λ j l. leb-false (entry_of list j).from (entry_of list i).from (or_false_both _ _ (any_zero (λ k. bad_after (entry_of list k) (entry_of list i)) i all.1 j l)).0;
     }
 
 -- Two rows of one length that hold a list of such entries.
@@ -68,7 +68,7 @@ accepted_list ss froms tos e =
     let all = all_accept (refuse_if (not (eqb (length froms) (length tos))) BadEntry ∷ refuse_at (first_bad_entry ss (list_of froms tos)) BadEntry ∷ []) e in
     record {
       even = eqb-true _ _ (not-false _ (accepts_if _ BadEntry refl all.0));
-      each = λ i l. good_entry ss (list_of froms tos) i (first-zero (bad_entry ss (list_of froms tos)) (length (list_of froms tos)) (accepts_at _ BadEntry refl all.1.0) i l);
+      each = λ i l. good_entry ss (list_of froms tos) i (first_zero (bad_entry ss (list_of froms tos)) (length (list_of froms tos)) (accepts_at _ BadEntry refl all.1.0) i l);
     }
 
 -- A wanted name is a stop's, and there the name starts and ends.
@@ -104,9 +104,9 @@ moves_by_leg p (g ∷ gs) first each next =
 
 -- The legs of a list, by their index: the detours, then what is behind them.
 module _ (ss : List Stop) (rest : List Leg) where
-  legs_length : (list : List Detour) → length (map (leg_of ss) list ++ rest) ≡ length list + length rest
-  legs_length [] = omega arith
-  legs_length (d ∷ list) = omega (arith, legs_length list)
+  legs_length_here : (list : List Detour) → length (map (leg_of ss) list ++ rest) ≡ length list + length rest
+  legs_length_here [] = omega arith
+  legs_length_here (d ∷ list) = omega (arith, legs_length_here list)
 
   detour_at_here : (list : List Detour) (i : ℕ) → i < length list → leg_at (map (leg_of ss) list ++ rest) i ≡ leg_of ss (entry_of list i)
   detour_at_here [] i l = absurd (omega arith)
@@ -130,7 +130,7 @@ swept : (ss : List Stop) (list : List Detour) → 0 < length (last_sweep ss list
 unfolding last_sweep
 swept [] list l = absurd (omega arith)
 swept (s ∷ ss) list l =
-    let w = sweeps-to (map (leg_of (s ∷ ss)) list) (s ∷ ss) (omega arith) in
+    let w = sweeps_to (map (leg_of (s ∷ ss)) list) (s ∷ ss) (omega arith) in
     record { some = omega arith; left_is = refl; index = w.index; within = w.within; right_is = w.is }
 
 sweep_most : (ss : List Stop) (list : List Detour) → length (last_sweep ss list) ≤ 1
@@ -167,31 +167,31 @@ pulled_steady m ss top ok =
     }
 
 module _ (ss : List Stop) (m top : ℕ) (sound : Steady ss m top) where
-  names_rise : (i j : ℕ) → i < j → j < length ss → (stop_at ss i).file < (stop_at ss j).file
-  names_rise i zero l h = absurd (omega arith)
-  names_rise i (suc j) l h =
-      let before = names_rise i j in
+  names_rise_here : (i j : ℕ) → i < j → j < length ss → (stop_at ss i).file < (stop_at ss j).file
+  names_rise_here i zero l h = absurd (omega arith)
+  names_rise_here i (suc j) l h =
+      let before = names_rise_here i j in
       ⊎_elim
       (λ (e : i ≡ j). rw e (sound.ascends j h))
       (λ (lt : i < j). omega (arith, before lt (omega arith), sound.ascends j h))
       (eq-or-lt_of_le (le_of_suc-le-suc l))
 
-  names_order : (i j : ℕ) → i < length ss → (stop_at ss i).file ≤ (stop_at ss j).file → i ≤ j
-  names_order i j h l = elim (dec_lt j i) [ yes lt ↦ absurd (omega (arith, names_rise j i lt h)) | no n ↦ omega arith ]
+  names_order_here : (i j : ℕ) → i < length ss → (stop_at ss i).file ≤ (stop_at ss j).file → i ≤ j
+  names_order_here i j h l = elim (dec_lt j i) [ yes lt ↦ absurd (omega (arith, names_rise_here j i lt h)) | no n ↦ omega arith ]
 
   names_before : (i j : ℕ) → i < length ss → (stop_at ss i).file < (stop_at ss j).file → i < j
   names_before i j h l =
       ⊎_elim
       (λ (e : i ≡ j). absurd (omega (arith, ap (λ x. (stop_at ss x).file) e)))
       (λ (lt : i < j). lt)
-      (eq-or-lt_of_le (names_order i j h (omega arith)))
+      (eq-or-lt_of_le (names_order_here i j h (omega arith)))
 
   -- From the start of one name to the end of another at or right of it.
   way : (f g : ℕ) → wanted ss f ≡ true → wanted ss g ≡ true → f ≤ g → start_of ss f ≤ end_of ss g
   way f g a b l =
       let p = found ss f a in
       let q = found ss g b in
-      omega (arith, p.starts, q.ends, sound.spans p.index q.index (names_order p.index q.index p.within (omega (arith, p.is, q.is))) q.within)
+      omega (arith, p.starts, q.ends, sound.spans p.index q.index (names_order_here p.index q.index p.within (omega (arith, p.is, q.is))) q.within)
 
   module _ (list : List Detour) where
     -- The first n entries of a list, each of them good.
@@ -229,11 +229,11 @@ module _ (ss : List Stop) (m top : ℕ) (sound : Steady ss m top) where
 
       size : length gs ≡ length list + length (last_sweep ss list)
       unfolding gs
-      size = legs_length ss (last_sweep ss list) list
+      size = legs_length_here ss (last_sweep ss list) list
 
-      detour_is : (i : ℕ) → i < length list → leg_at gs i ≡ leg_of ss (entry_of list i)
+      detour_is_here : (i : ℕ) → i < length list → leg_at gs i ≡ leg_of ss (entry_of list i)
       unfolding gs
-      detour_is = detour_at_here ss (last_sweep ss list) list
+      detour_is_here = detour_at_here ss (last_sweep ss list) list
 
       sweep_is : (i : ℕ) → length list ≤ i → i < length gs → Swept ss (leg_at gs i)
       unfolding gs
@@ -245,7 +245,7 @@ module _ (ss : List Stop) (m top : ℕ) (sound : Steady ss m top) where
       leg_forth i h = elim (dec_lt i (length list)) [ yes l ↦ in_list l | no n ↦ in_sweep (sweep_is i (omega arith) h) ]
         where
           in_list : i < length list → (leg_at gs i).left ≤ (leg_at gs i).right
-          in_list l = let e = each i l in rw (detour_is i l) (way _ _ e.from_wanted e.to_wanted e.ordered)
+          in_list l = let e = each i l in rw (detour_is_here i l) (way _ _ e.from_wanted e.to_wanted e.ordered)
 
           in_sweep : Swept ss (leg_at gs i) → (leg_at gs i).left ≤ (leg_at gs i).right
           in_sweep s = omega (arith, s.left_is, s.right_is, sound.spans 0 s.index (omega arith) s.within)
@@ -259,12 +259,12 @@ module _ (ss : List Stop) (m top : ℕ) (sound : Steady ss m top) where
           in_list : suc i < length list → (leg_at gs (suc i)).left ≤ (leg_at gs i).right
           in_list l =
               let e = each (suc i) l in
-              rw (detour_is (suc i) l, detour_is i here) (way _ _ e.from_wanted (each i here).to_wanted (omega (arith, e.falls i (omega arith), (each i here).ordered)))
+              rw (detour_is_here (suc i) l, detour_is_here i here) (way _ _ e.from_wanted (each i here).to_wanted (omega (arith, e.falls i (omega arith), (each i here).ordered)))
 
           in_sweep : Swept ss (leg_at gs (suc i)) → (leg_at gs (suc i)).left ≤ (leg_at gs i).right
           in_sweep s =
               let q = found ss (entry_of list i).to (each i here).to_wanted in
-              omega (arith, s.left_is, ap (λ x. x.right) (detour_is i here), q.ends, sound.spans 0 q.index (omega arith) q.within)
+              omega (arith, s.left_is, ap (λ x. x.right) (detour_is_here i here), q.ends, sound.spans 0 q.index (omega arith) q.within)
 
       leg_first : 0 < length gs → (leg_at gs 0).left ≤ m
       leg_first h = elim (dec_lt 0 (length list)) [ yes l ↦ in_list l | no n ↦ in_sweep (sweep_is 0 (omega arith) h) ]
@@ -272,7 +272,7 @@ module _ (ss : List Stop) (m top : ℕ) (sound : Steady ss m top) where
           in_list : 0 < length list → (leg_at gs 0).left ≤ m
           in_list l =
               let p = found ss (entry_of list 0).from (each 0 l).from_wanted in
-              omega (arith, ap (λ x. x.left) (detour_is 0 l), p.starts, sound.meets p.index p.within)
+              omega (arith, ap (λ x. x.left) (detour_is_here 0 l), p.starts, sound.meets p.index p.within)
 
           in_sweep : Swept ss (leg_at gs 0) → (leg_at gs 0).left ≤ m
           in_sweep s = omega (arith, s.left_is, sound.meets 0 s.some)
@@ -283,7 +283,7 @@ module _ (ss : List Stop) (m top : ℕ) (sound : Steady ss m top) where
           in_list : i < length list → (leg_at gs i).right ≤ top
           in_list l =
               let q = found ss (entry_of list i).to (each i l).to_wanted in
-              omega (arith, ap (λ x. x.right) (detour_is i l), q.ends, sound.ends q.index q.within)
+              omega (arith, ap (λ x. x.right) (detour_is_here i l), q.ends, sound.ends q.index q.within)
 
           in_sweep : Swept ss (leg_at gs i) → (leg_at gs i).right ≤ top
           in_sweep s = omega (arith, s.right_is, sound.ends s.index s.within)
@@ -339,17 +339,17 @@ module _ (starts lengths aggregates : List ℕ) where
   module _ (ns cs : List ℕ) (f : ℕ) (w : wanted (joined (want_stops starts lengths aggregates ns cs)) f ≡ true) where
     start_in_table : length cs ≡ length ns → start_of (want_stops starts lengths aggregates ns cs) f ≡ left_of starts aggregates f
     start_in_table same =
-        let named = and_true_both _ _ (sym (wanted-named starts lengths aggregates ns cs same f) ∙ w) in
+        let named = and_true_both _ _ (sym (wanted_named starts lengths aggregates ns cs same f) ∙ w) in
         sym (start_joined (want_stops starts lengths aggregates ns cs) f)
         ∙ start_by (joined (want_stops starts lengths aggregates ns cs)) f
-        ∙ start-of-name starts lengths aggregates ns cs f w
+        ∙ start_of_name starts lengths aggregates ns cs f w
         ∙ ap (λ i. get_or starts i 0) (sym (first_stays aggregates (f - 1) (not-true _ named.0)))
 
     end_in_table : end_of (want_stops starts lengths aggregates ns cs) f ≡ right_of starts lengths aggregates f
     end_in_table =
         sym (end_joined (want_stops starts lengths aggregates ns cs) f)
         ∙ end_by (joined (want_stops starts lengths aggregates ns cs)) f
-        ∙ end-of-name starts lengths aggregates ns cs f w
+        ∙ end_of_name starts lengths aggregates ns cs f w
 
   -- A detour list's legs, where its names start and end as the table says, the head being at m at first.
   detours_in_rows : (m : ℕ) (ss : List Stop) (froms tos : List ℕ) → length froms ≡ length tos
@@ -361,7 +361,7 @@ module _ (starts lengths aggregates : List ℕ) where
   detours_in_rows m ss (f ∷ froms) [] even a b = absurd (omega arith)
   detours_in_rows m ss (f ∷ froms) (t ∷ tos) even a b =
       rw
-      (start-pulled m ss f, a 0 (omega arith), end-pulled m ss t, b 0 (omega arith))
+      (start_pulled m ss f, a 0 (omega arith), end_pulled m ss t, b 0 (omega arith))
       (ap
       (λ rest. record { left = leg_start m starts aggregates f; right = right_of starts lengths aggregates t } ∷ rest)
       (detours_in_rows m ss froms tos (omega arith) (λ i l. a (suc i) (omega arith)) (λ i l. b (suc i) (omega arith))))
@@ -397,33 +397,33 @@ module _ (r : Run) (run : GoodRun r) (froms tos : List ℕ) (g : GoodList (stops
       (λ i l. start_in_table r.starts r.lengths r.aggregates r.numbers r.counts (get_or froms i 0) (from_is i l) same)
       (λ i l. end_in_table r.starts r.lengths r.aggregates r.numbers r.counts (get_or tos i 0) (to_is i l))
       in
-      let swept = sweep-pulled m (map (leg_of (pulled m (want_stops_of r))) (list_of froms tos)) (detours-left m (want_stops_of r) (list_of froms tos)) (want_stops_of r) in
+      let swept = sweep_pulled m (map (leg_of (pulled m (want_stops_of r))) (list_of froms tos)) (detours_left m (want_stops_of r) (list_of froms tos)) (want_stops_of r) in
       let reach-is : reach ≡ sweep_end (map (leg_of (pulled m (want_stops_of r))) (list_of froms tos)) (want_stops_of r) = rw detours is in
       ap (λ ss. legs_of ss (list_of froms tos)) (pulled_joined m (want_stops_of r))
-      ∙ legs_joined (pulled m (want_stops_of r)) (pulled_agrees m (want_stops_of r) (wants-agree r.starts r.lengths r.aggregates r.numbers r.counts)) (list_of froms tos)
+      ∙ legs_joined (pulled m (want_stops_of r)) (pulled_agrees m (want_stops_of r) (wants_agree r.starts r.lengths r.aggregates r.numbers r.counts)) (list_of froms tos)
       ∙ rw (sweep_in_rows r.starts r.lengths r.aggregates m r.numbers r.counts same (list_of froms tos) reach (reach-is ∙ sym swept), detours)
 
   -- They can be walked, from the run's head and from a head anywhere.
   pub run_walkable : Walkable (legs_of (stops_of r) (list_of froms tos)) r.head r.turn
-  run_walkable = walkable (stops_of r) r.head (run_sound r run) (list_of froms tos) g.each r.turn (omega (arith, stops-few r run, run.wants.few)) run.start.near run.start.cheap
+  run_walkable = walkable (stops_of r) r.head (run_sound r run) (list_of froms tos) g.each r.turn (omega (arith, stops_few r run, run.wants.few)) run.start.near run.start.cheap
 
   pub any_walkable : (m : ℕ) → m ≤ last_place → Walkable (legs_of (pulled m (stops_of r)) (list_of froms tos)) m r.turn
   any_walkable m on =
-      walkable_any (stops_of r) r.head (run_sound r run) (list_of froms tos) g.each r.turn (omega (arith, stops-few r run, run.wants.few)) run.start.near run.start.cheap m on
+      walkable_any (stops_of r) r.head (run_sound r run) (list_of froms tos) g.each r.turn (omega (arith, stops_few r run, run.wants.few)) run.start.near run.start.cheap m on
 
   -- A name is the number of a file of the table.
   named_in_table : (f : ℕ) → wanted (stops_of r) f ≡ true → InTable r.starts f
   named_in_table f w =
       let p = wanted_at (want_stops_of r) f (sym (wanted_joined (want_stops_of r) f) ∙ w) in
-      let l : p.index < length r.numbers = omega (arith, p.within, wants-length r.starts r.lengths r.aggregates r.numbers r.counts same) in
+      let l : p.index < length r.numbers = omega (arith, p.within, wants_length r.starts r.lengths r.aggregates r.numbers r.counts same) in
       let n = wants_named r.starts r.numbers r.counts run.wants p.index l in
-      let is = sym p.is ∙ ap (λ s. s.file) (want_at r.starts r.lengths r.aggregates r.numbers r.counts same p.index l) ∙ first_file_lem r.aggregates (get_or r.numbers p.index 0) n.least in
+      let is = sym p.is ∙ ap (λ s. s.file) (want_at_lem r.starts r.lengths r.aggregates r.numbers r.counts same p.index l) ∙ first_file_lem r.aggregates (get_or r.numbers p.index 0) n.least in
       record { least = omega (arith, is); most = omega (arith, is, first_below r.aggregates (get_or r.numbers p.index 0 - 1), n.least, n.most) }
 
   -- And the first of its aggregate.
-  name_begins : (f : ℕ) → wanted (stops_of r) f ≡ true → goes_on r.aggregates (f - 1) ≡ false
-  name_begins f w =
-      not-true _ (and_true_both _ _ (sym (wanted-named r.starts r.lengths r.aggregates r.numbers r.counts same f) ∙ w)).0
+  name_begins_here : (f : ℕ) → wanted (stops_of r) f ≡ true → goes_on r.aggregates (f - 1) ≡ false
+  name_begins_here f w =
+      not-true _ (and_true_both _ _ (sym (wanted_named r.starts r.lengths r.aggregates r.numbers r.counts same f) ∙ w)).0
 
   pub rows_fit : RowsFit r.starts r.lengths r.aggregates r.numbers froms tos
   rows_fit =
@@ -434,15 +434,15 @@ module _ (r : Run) (run : GoodRun r) (froms tos : List ℕ) (g : GoodList (stops
               even = g.even;
               lefts = λ i l. named_in_table (get_or froms i 0) (from_is i l);
               rights = λ i l. named_in_table (get_or tos i 0) (to_is i l);
-              named = λ i l. (name_begins (get_or froms i 0) (from_is i l), name_begins (get_or tos i 0) (to_is i l));
+              named = λ i l. (name_begins_here (get_or froms i 0) (from_is i l), name_begins_here (get_or tos i 0) (to_is i l));
             };
         wants = wants_named r.starts r.numbers r.counts run.wants;
       }
 
   -- The list has no more entries than there are wants.
-  pub list_fits_here : length froms ≤ length r.numbers
-  list_fits_here =
+  pub list_fits_lem : length froms ≤ length r.numbers
+  list_fits_lem =
       elim (dec_lt 0 (length (stops_of r))) [
-        | yes l ↦ omega (arith, count, entries_few (stops_of r) r.head (run_sound r run) (list_of froms tos) (length (list_of froms tos)) g.each l, stops-few r run)
+        | yes l ↦ omega (arith, count, entries_few (stops_of r) r.head (run_sound r run) (list_of froms tos) (length (list_of froms tos)) g.each l, stops_few r run)
         | no n ↦ omega (arith, count, entries_none (stops_of r) r.head (run_sound r run) (list_of froms tos) (length (list_of froms tos)) g.each (omega arith))
       ]

@@ -1,6 +1,6 @@
 -- `answer_any::answer` meets its contract: a refusal leaves the row, and else the plan sheet is handed out.
 -- Assumes nothing.
-use Rattle.answer_any.proofs.Answered.{answer_refused, answer-planned}
+use Rattle.answer_any.proofs.Answered.{answer_refused, answer_planned}
 use borrow.Author.Rules.{rules}
 use Rattle.answer_any.proofs.answer.Statement.{statement}
 use Rattle.answer_any.proofs.answer.Tie as tie
@@ -54,7 +54,7 @@ returns-2 c =
     let l = listing e.before in
     let r = reading l in
     let a = (start r).args in
-    answer-planned a.sheet.now _ r.read-run.ensures a.room.now l.list_any.result _ l.list_any.ensures _ e.before.refused.ensures e.if1.false a.out.now _ _ w.write-any.ensures
+    answer_planned a.sheet.now _ r.read-run.ensures a.room.now l.list_any.result _ l.list_any.ensures _ e.before.refused.ensures e.if1.false a.out.now _ _ w.write-any.ensures
 
 pub answer-spec : {M : Type 1} → statement M
 answer-spec =

@@ -3,7 +3,7 @@
 use mathlib.Core.Path.{◌≡◌, refl, sym}
 use lib.ListN.{length}
 use Rattle.sheet_runs.proofs.Runs.{held_by}
-use Rattle.answer_any.proofs.Planned.{any-unlisted, any-listed}
+use Rattle.answer_any.proofs.Planned.{any_unlisted, any_listed}
 use borrow.Author.Rules.{rules}
 use Rattle.answer_any.proofs.list_any.Statement.{statement}
 use Rattle.answer_any.proofs.list_any.Tie as tie
@@ -12,7 +12,7 @@ refused-requires : tie.Need-refused-requires
 refused-requires c κs = search rules
 
 returns : tie.Need-returns
-returns c = let f = c.before in any-unlisted f.before.before.before.args.run f.before.before.before.args.room.now _ f.refused.ensures c.if1.true _ refl
+returns c = let f = c.before in any_unlisted f.before.before.before.args.run f.before.before.before.args.room.now _ f.refused.ensures c.if1.true _ refl
 
 slice-aggregate-entries : tie.Need-slice-aggregate-entries
 slice-aggregate-entries c = search rules
@@ -69,7 +69,7 @@ returns-2 c =
     let e5 = p.before.before in
     let e3 = aggregated e5 in
     let e = passed e3 in
-    any-listed (start e).args.run (start e).args.room.now _ e.before.refused.ensures e.if1.left _
+    any_listed (start e).args.run (start e).args.room.now _ e.before.refused.ensures e.if1.left _
     (held_by (start e).args.run e3.before.before.before.before.entries.ensures.0 e3.before.before.entries2.ensures.0 e3.entries3.ensures.0 e5.before.before.entries4.ensures.0 e5.entries5.ensures.0)
     _ _ p.plan-rows.ensures
 

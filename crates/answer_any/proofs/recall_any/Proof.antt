@@ -1,6 +1,6 @@
 -- `answer_any::recall_any` meets its contract: the two lines of a refusal, else the plan sheet.
 -- Assumes nothing.
-use Rattle.answer_any.proofs.Answered.{recall-refused, recall-planned}
+use Rattle.answer_any.proofs.Answered.{recall_refused, recall_planned}
 use borrow.Author.Rules.{rules}
 use Rattle.answer_any.proofs.recall_any.Statement.{statement}
 use Rattle.answer_any.proofs.recall_any.Tie as tie
@@ -40,7 +40,7 @@ returns c =
     let l = listing t.before in
     let r = reading l in
     let a = (start r).args in
-    recall-refused a.sheet.now _ r.read-run.ensures a.room.now l.list_any.result _ l.list_any.ensures _ t.before.refused.ensures t.if1.true a.out.now w.write-refusal.result _ w.write-refusal.ensures
+    recall_refused a.sheet.now _ r.read-run.ensures a.room.now l.list_any.result _ l.list_any.ensures _ t.before.refused.ensures t.if1.true a.out.now w.write-refusal.result _ w.write-refusal.ensures
 
 write-any-requires : tie.Need-write-any-requires
 write-any-requires c κs = search rules
@@ -58,7 +58,7 @@ returns-2 c =
     let l = listing e.before in
     let r = reading l in
     let a = (start r).args in
-    recall-planned a.sheet.now _ r.read-run.ensures a.room.now l.list_any.result _ l.list_any.ensures _ e.before.refused.ensures e.if1.false a.out.now w.write-any.result _ w.write-any.ensures
+    recall_planned a.sheet.now _ r.read-run.ensures a.room.now l.list_any.result _ l.list_any.ensures _ e.before.refused.ensures e.if1.false a.out.now w.write-any.result _ w.write-any.ensures
 
 pub recall-any-spec : {M : Type 1} → statement M
 recall-any-spec =

@@ -1,7 +1,7 @@
 -- `answer_buys::write_list` meets its contract: the two lines of a refusal, else the figure sheet of the run and the list that the rows hold.
 -- Assumes nothing.
 use Rattle.sheet_figures.specs.FigureSheet.{FigureWritten}
-use Rattle.answer_plan.proofs.Answered.{refusal-written, text-written}
+use Rattle.answer_plan.proofs.Answered.{refusal_written, text_written}
 use borrow.Author.Rules.{rules}
 use Rattle.answer_buys.proofs.write_list.Statement.{statement}
 use Rattle.answer_buys.proofs.write_list.Tie as tie
@@ -27,7 +27,7 @@ returns c =
     let w = c.before.before in
     let f = w.before.before.before in
     let a = (start f).args in
-    refusal-written FigureWritten a.sheet.now a.run a.list a.out.now _ f.refused.ensures w.before.before.if1.true w.write-refusal.result _ w.write-refusal.ensures
+    refusal_written FigureWritten a.sheet.now a.run a.list a.out.now _ f.refused.ensures w.before.before.if1.true w.write-refusal.result _ w.write-refusal.ensures
 
 tape-name-requires : tie.Need-tape-name-requires
 tape-name-requires c κs = search rules
@@ -58,7 +58,7 @@ returns-2 c =
     let n = e1.before.before in
     let p = passed n in
     let a = (start p.before).args in
-    text-written FigureWritten a.sheet.now a.run a.list a.out.now _ p.before.refused.ensures p.if1.left n.tape-name.ensures.0 e1.entries.ensures.0 e2.entries2.ensures.0
+    text_written FigureWritten a.sheet.now a.run a.list a.out.now _ p.before.refused.ensures p.if1.left n.tape-name.ensures.0 e1.entries.ensures.0 e2.entries2.ensures.0
     w.write-text.result _ w.write-text.ensures
 
 pub write-list-spec : {M : Type 1} → statement M

@@ -1,6 +1,6 @@
 -- `answer_buys_any::answer` meets its contract: a refusal leaves the row, and else the figure sheet is handed out.
 -- Assumes nothing.
-use Rattle.answer_buys_any.proofs.Laws.{figures-refused, figures-written}
+use Rattle.answer_buys_any.proofs.Laws.{figures_refused, figures_written}
 use borrow.Author.Rules.{rules}
 use Rattle.answer_buys_any.proofs.answer.Statement.{statement}
 use Rattle.answer_buys_any.proofs.answer.Tie as tie
@@ -36,7 +36,7 @@ returns c =
     let l = listing f in
     let r = reading l in
     let a = (start r).args in
-    figures-refused a.sheet.now _ r.read-run.ensures a.room.now l.list_any.result _ l.list_any.ensures _ f.refused.ensures c.before.if1.true a.out.now _ c.answer-to.ensures
+    figures_refused a.sheet.now _ r.read-run.ensures a.room.now l.list_any.result _ l.list_any.ensures _ f.refused.ensures c.before.if1.true a.out.now _ c.answer-to.ensures
 
 write-any-requires : tie.Need-write-any-requires
 write-any-requires c κs = search rules
@@ -54,7 +54,7 @@ returns-2 c =
     let l = listing e.before in
     let r = reading l in
     let a = (start r).args in
-    figures-written a.sheet.now _ r.read-run.ensures a.room.now l.list_any.result _ l.list_any.ensures _ e.before.refused.ensures e.if1.false a.out.now _ _ w.write-any.ensures
+    figures_written a.sheet.now _ r.read-run.ensures a.room.now l.list_any.result _ l.list_any.ensures _ e.before.refused.ensures e.if1.false a.out.now _ _ w.write-any.ensures
 
 pub answer-spec : {M : Type 1} → statement M
 answer-spec =

@@ -1,6 +1,6 @@
 -- `answer_buys_any::buys_any` meets its contract: the two lines of a refusal, else the figure sheet.
 -- Assumes nothing.
-use Rattle.answer_buys_any.proofs.Laws.{bought-refused, bought-figures}
+use Rattle.answer_buys_any.proofs.Laws.{bought_refused, bought_figures}
 use borrow.Author.Rules.{rules}
 use Rattle.answer_buys_any.proofs.buys_any.Statement.{statement}
 use Rattle.answer_buys_any.proofs.buys_any.Tie as tie
@@ -40,7 +40,7 @@ returns c =
     let l = listing t.before in
     let r = reading l in
     let a = (start r).args in
-    bought-refused a.sheet.now _ r.read-run.ensures a.room.now l.list_any.result _ l.list_any.ensures _ t.before.refused.ensures t.if1.true a.out.now w.write-refusal.result _ w.write-refusal.ensures
+    bought_refused a.sheet.now _ r.read-run.ensures a.room.now l.list_any.result _ l.list_any.ensures _ t.before.refused.ensures t.if1.true a.out.now w.write-refusal.result _ w.write-refusal.ensures
 
 write-any-requires : tie.Need-write-any-requires
 write-any-requires c κs = search rules
@@ -58,7 +58,7 @@ returns-2 c =
     let l = listing e.before in
     let r = reading l in
     let a = (start r).args in
-    bought-figures a.sheet.now _ r.read-run.ensures a.room.now l.list_any.result _ l.list_any.ensures _ e.before.refused.ensures e.if1.false a.out.now w.write-any.result _ w.write-any.ensures
+    bought_figures a.sheet.now _ r.read-run.ensures a.room.now l.list_any.result _ l.list_any.ensures _ e.before.refused.ensures e.if1.false a.out.now w.write-any.result _ w.write-any.ensures
 
 pub buys-any-spec : {M : Type 1} → statement M
 buys-any-spec =

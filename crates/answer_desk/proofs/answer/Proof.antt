@@ -1,7 +1,7 @@
 -- `answer_desk::answer` meets its contract: the event that was read is answered.
 -- Assumes nothing.
 use Rattle.desk_boardings.specs.Boardings.{Tape}
-use Rattle.answer_desk.proofs.Saying.{file-answered, withdraw-answered, board-answered, not_answered}
+use Rattle.answer_desk.proofs.Saying.{file_answered, withdraw_answered, board_answered, not_answered}
 use borrow.Author.Rules.{rules}
 use Rattle.answer_desk.proofs.answer.Statement.{statement}
 use Rattle.answer_desk.proofs.answer.Tie as tie
@@ -49,7 +49,7 @@ returns c =
     let o = f.before.before.before in
     let re = o.before.before in
     let s = at-start re in
-    file-answered s.args.len (tape s) s.args.day s.args.room.now s.args.out.now _ _ re.read-event.ensures _ _ _ _ _ o.office.given.1 f.file.ensures
+    file_answered s.args.len (tape s) s.args.day s.args.room.now s.args.out.now _ _ re.read-event.ensures _ _ _ _ _ o.office.given.1 f.file.ensures
 
 same-length-2 : tie.Need-same-length-2
 same-length-2 c = c.before.before.withdraw.auto.1.1.1.0
@@ -60,7 +60,7 @@ returns-2 c =
     let o2 = w.before.before.before in
     let re = o2.before.before in
     let s = at-start re in
-    withdraw-answered s.args.len (tape s) s.args.day s.args.room.now s.args.out.now _ _ re.read-event.ensures _ _ _ _ o2.office2.given.1 w.withdraw.ensures
+    withdraw_answered s.args.len (tape s) s.args.day s.args.room.now s.args.out.now _ _ re.read-event.ensures _ _ _ _ o2.office2.given.1 w.withdraw.ensures
 
 same-length-3 : tie.Need-same-length-3
 same-length-3 c = c.before.before.before.before.board.auto.1.1.1.1.1.1.0
@@ -74,7 +74,7 @@ returns-3 c =
     let h = b.before.before.before.before in
     let re = h.before.before in
     let s = at-start re in
-    board-answered s.args.len (tape s) s.args.day s.args.room.now s.args.out.now _ _ re.read-event.ensures _ _ _ _ h.head.given.1 _ b.board.ensures
+    board_answered s.args.len (tape s) s.args.day s.args.room.now s.args.out.now _ _ re.read-event.ensures _ _ _ _ h.head.given.1 _ b.board.ensures
 
 returns-4 : tie.Need-returns-4
 returns-4 c =

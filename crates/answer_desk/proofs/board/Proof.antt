@@ -1,6 +1,6 @@
 -- `answer_desk::board` meets its contract: 8 before anything is done, or the boarding on a row that takes its text.
 -- Assumes nothing.
-use Rattle.answer_desk.proofs.Rehearsing.{board-short, board-fits}
+use Rattle.answer_desk.proofs.Rehearsing.{board_short, board_fits}
 use borrow.Author.Rules.{rules}
 use Rattle.answer_desk.proofs.board.Statement.{statement}
 use Rattle.answer_desk.proofs.board.Tie as tie
@@ -16,7 +16,7 @@ returns c =
     let t = c.before in
     let n = t.before in
     let a = n.before.before.before.before.before.before.args in
-    board-short a.len _ a.day a.boarding _ _ _ n.needed.ensures _ t.if1.true c.refuse.ensures
+    board_short a.len _ a.day a.boarding _ _ _ n.needed.ensures _ t.if1.true c.refuse.ensures
 
 board-now-requires : tie.Need-board-now-requires
 board-now-requires c κs = search rules
@@ -33,7 +33,7 @@ returns-2 c =
     let e = b.before.before.before in
     let n = e.before in
     let a = n.before.before.before.before.before.before.args in
-    board-fits a.len _ a.day a.boarding _ _ _ n.needed.ensures _ _ _ e.if1.false b.board-now.ensures
+    board_fits a.len _ a.day a.boarding _ _ _ n.needed.ensures _ _ _ e.if1.false b.board-now.ensures
 
 pub board-spec : {M : Type 1} → statement M
 board-spec =

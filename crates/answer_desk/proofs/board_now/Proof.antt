@@ -2,8 +2,8 @@
 -- Assumes nothing.
 use mathlib.Core.Path.{◌≡◌, sym, ◌∙◌}
 use lib.ListN.{length}
-use Rattle.answer_desk.proofs.Leaving.{unmapped, who-leaves}
-use Rattle.answer_desk.proofs.Rehearsing.{now-refused, now-told}
+use Rattle.answer_desk.proofs.Leaving.{unmapped, who_leaves}
+use Rattle.answer_desk.proofs.Rehearsing.{now_refused, now_told}
 use borrow.Author.Rules.{rules}
 use Rattle.answer_desk.proofs.board_now.Statement.{statement}
 use Rattle.answer_desk.proofs.board_now.Tie as tie
@@ -48,14 +48,14 @@ returns c =
     let f = t.before in
     let b = boarded f in
     let a = (start b).args in
-    now-refused a.len _ a.day a.boarding _ _ b.board-in.result _ b.board-in.ensures _ f.refused.ensures _ t.if1.true c.refuse.ensures
+    now_refused a.len _ a.day a.boarding _ _ b.board-in.result _ b.board-in.ensures _ f.refused.ensures _ t.if1.true c.refuse.ensures
 
 say-boarding-requires : tie.Need-say-boarding-requires
 say-boarding-requires c κs =
     let e = c.before.before.before in
     let f = e.before in
     let b = boarded f in
-    who-leaves _ _ _ (long (start b)) _ _ _ _ b.board-in.ensures (sym f.refused.ensures ∙ e.if1.false)
+    who_leaves _ _ _ (long (start b)) _ _ _ _ b.board-in.ensures (sym f.refused.ensures ∙ e.if1.false)
 
 answer-by-requires : tie.Need-answer-by-requires
 answer-by-requires c κs = search rules
@@ -73,7 +73,7 @@ returns-2 c =
     let f = e.before in
     let b = boarded f in
     let a = (start b).args in
-    now-told a.len _ a.day a.boarding _ _ b.board-in.result _ b.board-in.ensures _ f.refused.ensures _ e.if1.false _ _ s.say-boarding.ensures c.answer-by.ensures
+    now_told a.len _ a.day a.boarding _ _ b.board-in.result _ b.board-in.ensures _ f.refused.ensures _ e.if1.false _ _ s.say-boarding.ensures c.answer-by.ensures
 
 pub board-now-spec : {M : Type 1} → statement M
 board-now-spec =

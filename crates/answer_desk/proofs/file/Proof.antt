@@ -1,6 +1,6 @@
 -- `answer_desk::file` meets its contract: the table's refusal, or its answer in a line.
 -- Assumes nothing.
-use Rattle.answer_desk.proofs.Saying.{filing-refused, filing-said}
+use Rattle.answer_desk.proofs.Saying.{filing_refused, filing_said}
 use borrow.Author.Rules.{rules}
 use Rattle.answer_desk.proofs.file.Statement.{statement}
 use Rattle.answer_desk.proofs.file.Tie as tie
@@ -24,7 +24,7 @@ returns c =
     let f = t.before in
     let w = worked f in
     let a = w.before.before.before.args in
-    filing-refused a.len a.day _ _ _ a.filing w.file-in.result w.file-in.ensures f.refused.ensures t.if1.true c.refuse.ensures
+    filing_refused a.len a.day _ _ _ a.filing w.file-in.result w.file-in.ensures f.refused.ensures t.if1.true c.refuse.ensures
 
 slice-aggregate-say-pair : tie.Need-slice-aggregate-say-pair
 slice-aggregate-say-pair c = search rules
@@ -45,7 +45,7 @@ returns-2 c =
     let f = e.before in
     let w = worked f in
     let a = w.before.before.before.args in
-    filing-said a.len a.day _ _ _ a.filing w.file-in.result w.file-in.ensures f.refused.ensures e.if1.false _ _ s.say-pair.ensures c.answer-by.ensures
+    filing_said a.len a.day _ _ _ a.filing w.file-in.result w.file-in.ensures f.refused.ensures e.if1.false _ _ s.say-pair.ensures c.answer-by.ensures
 
 pub file-spec : {M : Type 1} → statement M
 file-spec =

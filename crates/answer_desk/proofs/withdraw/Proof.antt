@@ -1,6 +1,6 @@
 -- `answer_desk::withdraw` meets its contract: the table's refusal, or its answer in a line.
 -- Assumes nothing.
-use Rattle.answer_desk.proofs.Saying.{withdrawal-refused, withdrawal-said}
+use Rattle.answer_desk.proofs.Saying.{withdrawal_refused, withdrawal_said}
 use borrow.Author.Rules.{rules}
 use Rattle.answer_desk.proofs.withdraw.Statement.{statement}
 use Rattle.answer_desk.proofs.withdraw.Tie as tie
@@ -24,7 +24,7 @@ returns c =
     let f = t.before in
     let w = worked f in
     let a = w.before.before.before.args in
-    withdrawal-refused a.len a.day _ _ _ a.withdrawal w.withdraw-in.result w.withdraw-in.ensures f.refused.ensures t.if1.true c.refuse.ensures
+    withdrawal_refused a.len a.day _ _ _ a.withdrawal w.withdraw-in.result w.withdraw-in.ensures f.refused.ensures t.if1.true c.refuse.ensures
 
 slice-aggregate-say-pair : tie.Need-slice-aggregate-say-pair
 slice-aggregate-say-pair c = search rules
@@ -45,7 +45,7 @@ returns-2 c =
     let f = e.before in
     let w = worked f in
     let a = w.before.before.before.args in
-    withdrawal-said a.len a.day _ _ _ a.withdrawal w.withdraw-in.result w.withdraw-in.ensures f.refused.ensures e.if1.false _ _ s.say-pair.ensures c.answer-by.ensures
+    withdrawal_said a.len a.day _ _ _ a.withdrawal w.withdraw-in.result w.withdraw-in.ensures f.refused.ensures e.if1.false _ _ s.say-pair.ensures c.answer-by.ensures
 
 pub withdraw-spec : {M : Type 1} → statement M
 withdraw-spec =

@@ -1,6 +1,6 @@
 -- `answer_field::field` meets its contract: what is written of the list of the sheet's run is the answer to the sheet.
 -- Assumes nothing.
-use Rattle.engine_plain.proofs.Checks.{run-passed}
+use Rattle.engine_plain.proofs.Checks.{run_passed}
 use Rattle.answer_plan.proofs.Answered.{recalled}
 use Rattle.answer_field.specs.Field.{field_checks}
 use borrow.Author.Rules.{rules}
@@ -23,7 +23,7 @@ returns : tie.Need-returns
 returns c =
     let w = c.before.before in
     let l = w.before.before in
-    recalled field_checks run-passed _ _ l.before.read-run.ensures l.list-run.result l.list-run.ensures _ _ _ w.write-list.ensures
+    recalled field_checks run_passed _ _ l.before.read-run.ensures l.list-run.result l.list-run.ensures _ _ _ w.write-list.ensures
 
 pub field-spec : {M : Type 1} → statement M
 field-spec =

@@ -3,7 +3,7 @@
 use mathlib.Core.Path.{◌≡◌, refl, sym}
 use lib.ListN.{length}
 use Rattle.sheet_runs.proofs.Runs.{held_by}
-use Rattle.answer_plan.proofs.Planned.{unlisted, run-listed}
+use Rattle.answer_plan.proofs.Planned.{unlisted, run_listed}
 use Rattle.answer_field.specs.Field.{field_checks}
 use borrow.Author.Rules.{rules}
 use Rattle.answer_field.proofs.list_run.Statement.{statement}
@@ -66,7 +66,7 @@ returns-2 c =
     let e5 = c.before in
     let e3 = aggregated e5 in
     let e = passed e3 in
-    run-listed field_checks (start e).args.run _ e.before.refused.ensures e.if1.left _
+    run_listed field_checks (start e).args.run _ e.before.refused.ensures e.if1.left _
     (held_by (start e).args.run e3.before.before.before.before.entries.ensures.0 e3.before.before.entries2.ensures.0 e3.entries3.ensures.0 e5.before.before.entries4.ensures.0 e5.entries5.ensures.0)
     _ c.plan-rows.ensures
 

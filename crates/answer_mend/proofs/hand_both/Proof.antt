@@ -1,7 +1,7 @@
 -- `answer_mend::hand_both` meets its contract: 12, then 8, or both texts in the rows.
 -- Assumes nothing.
 use borrow.Author.Rules.{rules}
-use Rattle.answer_mend.proofs.Answers.{both-none, both_put}
+use Rattle.answer_mend.proofs.Answers.{both_none, both_put}
 use Rattle.answer_mend.proofs.hand_both.Statement.{statement}
 use Rattle.answer_mend.proofs.hand_both.Tie as tie
 
@@ -15,7 +15,7 @@ unmended-requires : tie.Need-unmended-requires
 unmended-requires c κs = search rules
 
 returns : tie.Need-returns
-returns c = both-none _ _ _ _ _ c.before.before.before.judge-texts.ensures _ c.before.before.refused.ensures c.before.if1.true _ c.unmended.ensures
+returns c = both_none _ _ _ _ _ c.before.before.before.judge-texts.ensures _ c.before.before.refused.ensures c.before.if1.true _ c.unmended.ensures
 
 put-requires : tie.Need-put-requires
 put-requires c κs = search rules

@@ -3,7 +3,7 @@
 use borrow.Author.Rules.{rules}
 use mathlib.Core.Path.{sym}
 use lib.Seq.{length-take-le}
-use Rattle.answer_mend.proofs.Answers.{wants-none, wants-writable, wants-handed}
+use Rattle.answer_mend.proofs.Answers.{wants_none, wants_writable, wants_handed}
 use Rattle.answer_mend.proofs.mend_wants.Statement.{statement}
 use Rattle.answer_mend.proofs.mend_wants.Tie as tie
 
@@ -30,7 +30,7 @@ returns : tie.Need-returns
 returns c =
     let jw = c.before.before.before in
     let g = jw.before.before in
-    wants-none _ _ _ _ (at-start g).requires _ _ g.gather.ensures _ jw.judge-wants.ensures _ c.before.before.refused.ensures _ _ _ _ c.before.if1.true _ c.unmended.ensures
+    wants_none _ _ _ _ (at-start g).requires _ _ g.gather.ensures _ jw.judge-wants.ensures _ c.before.before.refused.ensures _ _ _ _ c.before.if1.true _ c.unmended.ensures
 
 array-share-prefix-row : tie.Need-array-share-prefix-row
 array-share-prefix-row c = search rules
@@ -43,7 +43,7 @@ write-mended-requires c κs =
     let e1 = c.before.before.before in
     let jw = e1.before.before in
     let g = jw.before.before in
-    wants-writable _ _ _ _ (at-start g).requires _ _ g.gather.ensures _ jw.judge-wants.ensures _ e1.before.refused.ensures e1.if1.false
+    wants_writable _ _ _ _ (at-start g).requires _ _ g.gather.ensures _ jw.judge-wants.ensures _ e1.before.refused.ensures e1.if1.false
 
 same_length : tie.Need-same-length
 same_length c = c.before.before.before.before.write-mended.auto.1.1.1.1.1.0
@@ -57,7 +57,7 @@ returns-2 c =
     let e1 = wm.before.before.before.before in
     let jw = e1.before.before in
     let g = jw.before.before in
-    wants-handed _ _ _ _ (at-start g).requires _ _ g.gather.ensures _ jw.judge-wants.ensures _ e1.before.refused.ensures _ _ _ _ e1.if1.false _ _ _ wm.write-mended.ensures
+    wants_handed _ _ _ _ (at-start g).requires _ _ g.gather.ensures _ jw.judge-wants.ensures _ e1.before.refused.ensures _ _ _ _ e1.if1.false _ _ _ wm.write-mended.ensures
 
 pub mend-wants-spec : {M : Type 1} → statement M
 mend-wants-spec =

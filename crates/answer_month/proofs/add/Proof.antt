@@ -2,7 +2,7 @@
 -- Assumes nothing.
 use native.Mathlib.Omega.{arith}
 use Rattle.refusals.proofs.Verdicts.{number_small}
-use Rattle.answer_month.proofs.Adding.{added-refused, added-accepted}
+use Rattle.answer_month.proofs.Adding.{added_refused, added_accepted}
 use borrow.Author.Rules.{rules}
 use Rattle.answer_month.proofs.add.Statement.{statement}
 use Rattle.answer_month.proofs.add.Tie as tie
@@ -14,7 +14,7 @@ add-refused-requires : tie.Need-add-refused-requires
 add-refused-requires c κs = omega (arith, number_small c.before.before.args.run.refusal, c.before.number.ensures)
 
 returns : tie.Need-returns
-returns c = added-refused _ _ _ c.before.before.number.ensures c.before.if1.true _ c.add-refused.ensures
+returns c = added_refused _ _ _ c.before.before.number.ensures c.before.if1.true _ c.add-refused.ensures
 
 add-totals-requires : tie.Need-add-totals-requires
 add-totals-requires c κs = search rules
@@ -23,7 +23,7 @@ add-longest-requires : tie.Need-add-longest-requires
 add-longest-requires c κs = search rules
 
 returns-2 : tie.Need-returns-2
-returns-2 c = added-accepted _ _ _ c.before.before.before.number.ensures c.before.before.if1.false _ _ c.before.add-totals.ensures c.add-longest.ensures
+returns-2 c = added_accepted _ _ _ c.before.before.before.number.ensures c.before.before.if1.false _ _ c.before.add-totals.ensures c.add-longest.ensures
 
 pub add_spec : {M : Type 1} → statement M
 add_spec =

@@ -5,7 +5,7 @@ use mathlib.Core.Path.{refl, ap, ◌∙◌}
 use mathlib.Core.List.{◌++◌}
 use native.Mathlib.Omega.{arith}
 use lib.ListN.{length}
-use Rattle.planner.proofs.Filling.{Filling, filling_start, filling-more, filling-all}
+use Rattle.planner.proofs.Filling.{Filling, filling_start, filling_more, filling_all}
 use Rattle.answer_outcome.specs.Outcomes.{name_in}
 use Rattle.answer_outcome.proofs.Turns.{drop_zeros}
 use borrow.Author.Rules.{rules}
@@ -34,13 +34,13 @@ loop-less : tie.Need-loop-smaller invariant-loop decreases-loop
 loop-less c = search rules
 
 loop-again : tie.Need-loop-preserved invariant-loop decreases-loop
-loop-again c = filling-more _ _ _ _ c.before.before.loop.invariant (omega arith) _ refl
+loop-again c = filling_more _ _ _ _ c.before.before.loop.invariant (omega arith) _ refl
 
 returns : tie.Need-returns invariant-loop decreases-loop
 unfolding name_in
 returns c =
     let name = c.before.before.args.name.now in
-    filling-all _ _ _ _ c.before.loop.invariant c.loop-test.false ∙ ap (λ l. name ++ l) (drop_zeros (length name) 16)
+    filling_all _ _ _ _ c.before.loop.invariant c.loop-test.false ∙ ap (λ l. name ++ l) (drop_zeros (length name) 16)
 
 pub letters-of-spec : {M : Type 1} → statement M
 letters-of-spec =

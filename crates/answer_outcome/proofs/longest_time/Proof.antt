@@ -5,7 +5,7 @@ use mathlib.Core.Path.{◌≡◌, refl, sym, ◌∙◌, ap}
 use native.Mathlib.Omega.{arith}
 use lib.ListN.{length, drop, get_or}
 use Rattle.answer_outcome.specs.Outcomes.{longest_from, longest_of}
-use Rattle.answer_outcome.proofs.Turns.{longest-turn, longest-short, longest-done}
+use Rattle.answer_outcome.proofs.Turns.{longest_turn, longest_short, longest_done}
 use borrow.Author.Rules.{rules}
 use Rattle.answer_outcome.proofs.longest_time.Statement.{statement}
 use Rattle.answer_outcome.proofs.longest_time.Tie as tie
@@ -20,7 +20,7 @@ loop-holds : tie.Need-loop-init invariant-loop decreases-loop
 loop-holds c = refl
 
 returns : tie.Need-returns invariant-loop decreases-loop
-returns c = sym (longest-short _ _ _ _ c.if1.true) ∙ c.before.before.loop.invariant
+returns c = sym (longest_short _ _ _ _ c.if1.true) ∙ c.before.before.loop.invariant
 
 mul-longer-of : tie.Need-overflow-mul-longer-of invariant-loop decreases-loop
 mul-longer-of c = search rules
@@ -46,10 +46,10 @@ loop-less c = search rules
 loop-again : tie.Need-loop-preserved invariant-loop decreases-loop
 loop-again c =
     let d = c.before.before.before.before.before in
-    rw c.longer-of.ensures (sym (longest-turn _ _ d.loop.most d.loop.i (omega arith) (omega arith)) ∙ d.loop.invariant)
+    rw c.longer-of.ensures (sym (longest_turn _ _ d.loop.most d.loop.i (omega arith) (omega arith)) ∙ d.loop.invariant)
 
 returns-2 : tie.Need-returns-2 invariant-loop decreases-loop
-returns-2 c = sym (longest-done _ _ _ _ c.loop-test.false) ∙ c.before.loop.invariant
+returns-2 c = sym (longest_done _ _ _ _ c.loop-test.false) ∙ c.before.loop.invariant
 
 pub longest-time-spec : {M : Type 1} → statement M
 longest-time-spec =

@@ -4,7 +4,7 @@ use mathlib.Core.Path.{refl, sym}
 use mathlib.Core.List.{[]}
 use native.Mathlib.Omega.{arith}
 use lib.Seq.{length-take-le}
-use Rattle.answer_outcome.proofs.Plans.{run_refused, judged, few-times, saves, name_fits, run-planned}
+use Rattle.answer_outcome.proofs.Plans.{run_refused, judged, few_times, saves, name_fits, run_planned}
 use borrow.Author.Rules.{rules}
 use Rattle.answer_outcome.proofs.run_outcome.Statement.{statement}
 use Rattle.answer_outcome.proofs.run_outcome.Tie as tie
@@ -25,7 +25,7 @@ empty-sum-requires : tie.Need-empty-sum-requires
 empty-sum-requires c κs = judged [] _ c.before.before.before.timed-plan.result c.before.before.before.timed-plan.ensures _ c.before.refused.ensures c.if1.false
 
 array-share-prefix-times : tie.Need-array-share-prefix-times
-array-share-prefix-times c = omega (arith, few-times [] _ c.before.before.before.before.before.timed-plan.result c.before.before.before.before.before.timed-plan.ensures _ c.before.before.before.refused.ensures c.before.before.if1.false, c.before.before.before.before.before.timed-plan.ensures.long)
+array-share-prefix-times c = omega (arith, few_times [] _ c.before.before.before.before.before.timed-plan.result c.before.before.before.before.before.timed-plan.ensures _ c.before.before.before.refused.ensures c.before.before.if1.false, c.before.before.before.before.before.timed-plan.ensures.long)
 
 slice-aggregate-longest-time : tie.Need-slice-aggregate-longest-time
 slice-aggregate-longest-time c = sym (length-take-le _ _ (array-share-prefix-times c.before))
@@ -58,7 +58,7 @@ returns-2 c =
     let at-if1 = at-empty-sum.before in
     let at-refused = at-if1.before in
     let at-timed-plan = at-refused.before.before in
-    run-planned _ _ at-timed-plan.timed-plan.result at-timed-plan.timed-plan.ensures _ at-refused.refused.ensures at-if1.if1.false _ _ _ _ c.before.before.count-reads.ensures at-empty-sum.empty-sum.ensures at-longest-time.longest-time.ensures c.letters-of.ensures
+    run_planned _ _ at-timed-plan.timed-plan.result at-timed-plan.timed-plan.ensures _ at-refused.refused.ensures at-if1.if1.false _ _ _ _ c.before.before.count-reads.ensures at-empty-sum.empty-sum.ensures at-longest-time.longest-time.ensures c.letters-of.ensures
 
 pub run-outcome-spec : {M : Type 1} → statement M
 run-outcome-spec =

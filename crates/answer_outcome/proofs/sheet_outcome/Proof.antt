@@ -3,7 +3,7 @@
 use mathlib.Core.Path.{◌≡◌, sym}
 use lib.ListN.{length}
 use Rattle.sheet_runs.proofs.Runs.{held_by}
-use Rattle.answer_outcome.proofs.Outcomes.{sheet-refused, sheet_named, sheet-ended}
+use Rattle.answer_outcome.proofs.Outcomes.{sheet_refused, sheet_named, sheet_ended}
 use borrow.Author.Rules.{rules}
 use Rattle.answer_outcome.proofs.sheet_outcome.Statement.{statement}
 use Rattle.answer_outcome.proofs.sheet_outcome.Tie as tie
@@ -25,7 +25,7 @@ returns : tie.Need-returns
 returns c =
     let f = c.before.before in
     let r = read f in
-    sheet-refused _ r.read-run.result r.read-run.ensures _ f.refused.ensures c.before.if1.true _ c.refused-outcome.ensures
+    sheet_refused _ r.read-run.result r.read-run.ensures _ f.refused.ensures c.before.if1.true _ c.refused-outcome.ensures
 
 tape-name-requires : tie.Need-tape-name-requires
 tape-name-requires c κs = search rules
@@ -90,7 +90,7 @@ returns-2 c =
     let n = named e3 in
     let e = passed n in
     let r = read e.before in
-    sheet-ended _ r.read-run.result r.read-run.ensures _ e.before.refused.ensures e.if1.left _ n.tape-name.ensures.0 _
+    sheet_ended _ r.read-run.result r.read-run.ensures _ e.before.refused.ensures e.if1.left _ n.tape-name.ensures.0 _
     (held_by r.read-run.result e3.before.before.before.before.entries.ensures.0 e3.before.before.entries2.ensures.0 e3.entries3.ensures.0 e5.before.before.entries4.ensures.0 e5.entries5.ensures.0)
     _ c.run-outcome.ensures
 

@@ -2,7 +2,7 @@
 -- Assumes nothing.
 use borrow.Author.Rules.{rules}
 use Rattle.answer_plan.proofs.Planned.{Lent}
-use Rattle.answer_outcome.proofs.Plans.{timed-plan}
+use Rattle.answer_outcome.proofs.Plans.{timed_plan_lem}
 use Rattle.answer_outcome.proofs.timed_plan.Statement.{statement}
 use Rattle.answer_outcome.proofs.timed_plan.Tie as tie
 use Rattle.answer_outcome.proofs.timed_plan.Reads as reads
@@ -35,7 +35,7 @@ plan-requires c κs = search rules
 
 -- src/lib.rt:118:1
 returns : tie.Need-returns
-returns c = timed-plan _ _ (record { froms = search rules; tos = search rules; times = search rules; legs = search rules; room = search rules }) _ _ c.before.before.before.before.before.plan.ensures
+returns c = timed_plan_lem _ _ (record { froms = search rules; tos = search rules; times = search rules; legs = search rules; room = search rules }) _ _ c.before.before.before.before.before.plan.ensures
 
 pub timed-plan-spec : {M : Type 1} → statement M
 timed-plan-spec =

@@ -3,7 +3,7 @@
 use borrow.Author.Rules.{rules}
 use native.Mathlib.Omega.{arith}
 use mathlib.Core.Path.{refl, ◌∙◌}
-use Rattle.answer_pick.proofs.Answering.{name-refused, input-refused, lines_fit, lines-answered}
+use Rattle.answer_pick.proofs.Answering.{name_refused, input_refused, lines_fit, lines_answered_lem}
 use Rattle.answer_pick.proofs.pick.Statement.{statement}
 use Rattle.answer_pick.proofs.pick.Tie as tie
 
@@ -74,7 +74,7 @@ unpicked-requires c κs = search rules
 returns : tie.Need-returns
 returns c =
     let a = (at-start-from-unpicked c).args in
-    name-refused a.unit a.name.now a.label.now a.index.now a.list.now a.head.now a.turn.now _ _ _ c.before.before.before.before.is_name.ensures c.before.before.before.if1.true _ (c.before.refused-if.ensures ∙ rw c.before.before.number.ensures) _ c.unpicked.ensures
+    name_refused a.unit a.name.now a.label.now a.index.now a.list.now a.head.now a.turn.now _ _ _ c.before.before.before.before.is_name.ensures c.before.before.before.if1.true _ (c.before.refused-if.ensures ∙ rw c.before.before.number.ensures) _ c.unpicked.ensures
 
 slice-aggregate-read-index : tie.Need-slice-aggregate-read-index
 slice-aggregate-read-index c = search rules
@@ -100,7 +100,7 @@ unpicked-requires-2 c κs = search rules
 returns-2 : tie.Need-returns-2
 returns-2 c =
     let a = (at-start-from-unpicked2 c).args in
-    input-refused a.unit a.name.now a.label.now a.index.now a.list.now a.head.now a.turn.now _ _ _ (at-after-is-name-from-unpicked2 c).is_name.ensures (at-else1-from-unpicked2 c).if1.false _ _ _ _ _ _ _ (search rules) (search rules) (search rules) (at-after-read-index-from-unpicked2 c).read-index.ensures _ c.before.before.before.before.other-if.ensures _ c.before.before.before.judge-input.ensures c.before.if2.true _ c.unpicked2.ensures
+    input_refused a.unit a.name.now a.label.now a.index.now a.list.now a.head.now a.turn.now _ _ _ (at-after-is-name-from-unpicked2 c).is_name.ensures (at-else1-from-unpicked2 c).if1.false _ _ _ _ _ _ _ (search rules) (search rules) (search rules) (at-after-read-index-from-unpicked2 c).read-index.ensures _ c.before.before.before.before.other-if.ensures _ c.before.before.before.judge-input.ensures c.before.if2.true _ c.unpicked2.ensures
 
 slice-aggregate-pick-lines : tie.Need-slice-aggregate-pick-lines
 slice-aggregate-pick-lines c = search rules
@@ -126,7 +126,7 @@ same-length-2 c = c.before.before.before.before.pick_lines.auto.1.1.1.1.1.1.1.1.
 returns-3 : tie.Need-returns-3
 returns-3 c =
     let a = (at-start-from-slice-known4 c).args in
-    lines-answered a.unit a.name.now a.label.now a.index.now a.list.now a.head.now a.turn.now _ _ _ (at-after-is-name-from-slice-known4 c).is_name.ensures (at-else1-from-slice-known4 c).if1.false _ _ _ _ _ _ _ (search rules) (search rules) (search rules) (at-after-read-index-from-slice-known4 c).read-index.ensures _ (at-after-other-if-from-slice-known4 c).other-if.ensures _ (at-after-judge-input-from-slice-known4 c).judge-input.ensures (at-else2-from-slice-known4 c).if2.false _ _ _ c.before.before.before.before.pick_lines.ensures
+    lines_answered_lem a.unit a.name.now a.label.now a.index.now a.list.now a.head.now a.turn.now _ _ _ (at-after-is-name-from-slice-known4 c).is_name.ensures (at-else1-from-slice-known4 c).if1.false _ _ _ _ _ _ _ (search rules) (search rules) (search rules) (at-after-read-index-from-slice-known4 c).read-index.ensures _ (at-after-other-if-from-slice-known4 c).other-if.ensures _ (at-after-judge-input-from-slice-known4 c).judge-input.ensures (at-else2-from-slice-known4 c).if2.false _ _ _ c.before.before.before.before.pick_lines.ensures
 
 pub pick_spec : {M : Type 1} → statement M
 pick_spec = tie.close (tie.spec is-name-requires number-requires refused-if-requires unpicked-requires returns slice-aggregate-read-index slice-aggregate-read-index-2 slice-aggregate-read-index-3 read-index-requires other-if-requires judge-input-requires unpicked-requires-2 returns-2 slice-aggregate-pick-lines slice-aggregate-pick-lines-2 slice-aggregate-pick-lines-3 pick-lines-requires same_length same-length-2 returns-3)

@@ -4,7 +4,7 @@ use borrow.Author.Rules.{rules}
 use native.Mathlib.Omega.{arith}
 use mathlib.Core.Path.{sym}
 use lib.Seq.{length-take-le}
-use Rattle.answer_pick.proofs.Answering.{lines-refused, lines-written}
+use Rattle.answer_pick.proofs.Answering.{lines_refused, lines_written}
 use Rattle.answer_pick.proofs.pick_lines.Statement.{statement}
 use Rattle.answer_pick.proofs.pick_lines.Tie as tie
 
@@ -56,7 +56,7 @@ unpicked-requires c κs = search rules
 returns : tie.Need-returns
 returns c =
     let a = (at-start-from-unpicked c).args in
-    lines-refused a.name.now a.list.now a.states.now a.starts.now a.ends.now a.head.now a.turn.now _ _ _ c.before.before.before.before.before.before.count-lines.ensures _ c.before.before.before.judge-lines.ensures c.before.if1.true _ c.unpicked.ensures
+    lines_refused a.name.now a.list.now a.states.now a.starts.now a.ends.now a.head.now a.turn.now _ _ _ c.before.before.before.before.before.before.count-lines.ensures _ c.before.before.before.judge-lines.ensures c.before.if1.true _ c.unpicked.ensures
 
 slice-aggregate-write-picks : tie.Need-slice-aggregate-write-picks
 slice-aggregate-write-picks c =
@@ -81,7 +81,7 @@ same-length-2 c = c.before.before.before.before.before.write-picks.auto.1.1.1.1.
 returns-2 : tie.Need-returns-2
 returns-2 c =
     let a = (at-start-from-told c).args in
-    lines-written a.name.now a.list.now a.states.now a.starts.now a.ends.now a.head.now a.turn.now _ _ _ (at-after-count-lines-from-told c).count-lines.ensures _ (at-after-judge-lines-from-told c).judge-lines.ensures (at-else1-from-told c).if1.false _ _ _ c.before.before.before.before.before.write-picks.ensures _ c.told.ensures
+    lines_written a.name.now a.list.now a.states.now a.starts.now a.ends.now a.head.now a.turn.now _ _ _ (at-after-count-lines-from-told c).count-lines.ensures _ (at-after-judge-lines-from-told c).judge-lines.ensures (at-else1-from-told c).if1.false _ _ _ c.before.before.before.before.before.write-picks.ensures _ c.told.ensures
 
 pub pick-lines-spec : {M : Type 1} → statement M
 pick-lines-spec = tie.close (tie.spec count-lines-requires slice-aggregate-judge-lines slice-aggregate-judge-lines-2 judge-lines-requires unpicked-requires returns slice-aggregate-write-picks slice-aggregate-write-picks-2 write-picks-requires told-requires same_length same-length-2 returns-2)

@@ -1,6 +1,6 @@
 -- `answer_rewrite::find_price` meets its contract: an LF behind the key says that the price is empty.
 -- Assumes nothing.
-use Rattle.answer_rewrite.proofs.Cut.{price-within, price-empty, price_given}
+use Rattle.answer_rewrite.proofs.Cut.{price_within, price_empty, price_given}
 use borrow.Author.Rules.{rules}
 use Rattle.answer_rewrite.proofs.find_price.Statement.{statement}
 use Rattle.answer_rewrite.proofs.find_price.Tie as tie
@@ -12,13 +12,13 @@ add_at : tie.Need-overflow-add-at
 add_at c = search rules
 
 shared-slice-read-if1 : tie.Need-shared-slice-read-if1
-shared-slice-read-if1 c = price-within _ c.before.before.before.requires _ c.before.third-line.ensures
+shared-slice-read-if1 c = price_within _ c.before.before.before.requires _ c.before.third-line.ensures
 
 add-t8 : tie.Need-overflow-add-t8
 add-t8 c = search rules
 
 returns : tie.Need-returns
-returns c = price-empty _ c.before.before.before.before.requires _ c.before.before.third-line.ensures c.if1.true
+returns c = price_empty _ c.before.before.before.before.requires _ c.before.before.third-line.ensures c.if1.true
 
 returns-2 : tie.Need-returns-2
 returns-2 c = price_given _ c.before.before.before.before.requires _ c.before.before.third-line.ensures c.if1.false

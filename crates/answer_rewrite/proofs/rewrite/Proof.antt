@@ -2,7 +2,7 @@
 -- Assumes nothing.
 use mathlib.Core.Path.{sym, ap, ◌∙◌}
 use lib.ListN.{length}
-use Rattle.answer_rewrite.proofs.Answers.{unread, readable, refused-result, result_fits, rewritten-so}
+use Rattle.answer_rewrite.proofs.Answers.{unread, readable, refused_result, result_fits, rewritten_so}
 use borrow.Author.Rules.{rules}
 use Rattle.answer_rewrite.proofs.rewrite.Statement.{statement}
 use Rattle.answer_rewrite.proofs.rewrite.Tie as tie
@@ -41,7 +41,7 @@ returns-2 : tie.Need-returns-2
 returns-2 c =
     let jr = c.before.before.before in
     let r = jr.before.before.before in
-    refused-result _ (at-start r).args.out.now _ r.before.judge.ensures _ r.refused.ensures jr.before.before.if1.false _
+    refused_result _ (at-start r).args.out.now _ r.before.judge.ensures _ r.refused.ensures jr.before.before.if1.false _
     jr.before.find-price.ensures.long _ jr.judge-result.ensures _ c.before.before.refused2.ensures c.before.if2.true _ c.unwritten2.ensures
 
 fill-requires : tie.Need-fill-requires
@@ -65,7 +65,7 @@ returns-3 c =
     let f = c.before.before in
     let r2 = f.before.before.before in
     let fp = r2.before.before in
-    rewritten-so _ (at-start fp.before.before).args.out.now _ fp.before.before.before.judge.ensures _ fp.before.before.refused.ensures
+    rewritten_so _ (at-start fp.before.before).args.out.now _ fp.before.before.before.judge.ensures _ fp.before.before.refused.ensures
     fp.before.if1.false _ fp.find-price.ensures.long _ r2.before.judge-result.ensures _ r2.refused2.ensures f.before.before.if2.false _ _
     fp.find-price.ensures.result f.fill.ensures
 

@@ -1,7 +1,7 @@
 -- `answer_rewrite::third_line` meets its contract: the line starts behind the second LF.
 -- Assumes nothing.
 use native.Mathlib.Omega.{arith}
-use Rattle.answer_rewrite.proofs.Cut.{first_found, first_within, second-found, second-within, third_at}
+use Rattle.answer_rewrite.proofs.Cut.{first_found, first_within, second_found, second_within, third_at}
 use borrow.Author.Rules.{rules}
 use Rattle.answer_rewrite.proofs.third_line.Statement.{statement}
 use Rattle.answer_rewrite.proofs.third_line.Tie as tie
@@ -50,21 +50,21 @@ returns-2 c =
     let f2 = c.before.before in
     let f = f2.before.before.before in
     let find = f.before.before in
-    absurd (second-found _ find.before.before.requires _ find.find.ensures _ f.first.given.1 _ f2.find2.ensures c.enum-told2.given.1)
+    absurd (second_found _ find.before.before.requires _ find.find.ensures _ f.first.given.1 _ f2.find2.ensures c.enum-told2.given.1)
 
 add-result : tie.Need-overflow-add-result
 add-result c =
     let f2 = c.before.before.before in
     let f = f2.before.before.before in
     let find = f.before.before in
-    let h = second-within _ find.before.before.requires _ find.find.ensures _ f.first.given.1 _ f2.find2.ensures _ c.before.second.given.1 in omega (arith, h)
+    let h = second_within _ find.before.before.requires _ find.find.ensures _ f.first.given.1 _ f2.find2.ensures _ c.before.second.given.1 in omega (arith, h)
 
 add-result-2 : tie.Need-overflow-add-result-2
 add-result-2 c =
     let f2 = c.before.before.before in
     let f = f2.before.before.before in
     let find = f.before.before in
-    let h = second-within _ find.before.before.requires _ find.find.ensures _ f.first.given.1 _ f2.find2.ensures _ c.before.second.given.1 in omega (arith, h)
+    let h = second_within _ find.before.before.requires _ find.find.ensures _ f.first.given.1 _ f2.find2.ensures _ c.before.second.given.1 in omega (arith, h)
 
 returns-3 : tie.Need-returns-3
 returns-3 c =

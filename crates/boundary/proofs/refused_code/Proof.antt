@@ -1,7 +1,7 @@
 -- `boundary::refused_code` meets its contract: the judging's own code, or the number.
 -- Assumes nothing.
 use Rattle.runs.specs.Run.{Run, run_of}
-use Rattle.boundary.proofs.Plans.{run-placed, run-code, own-number}
+use Rattle.boundary.proofs.Plans.{run_placed, run_code, own_number_lem}
 use borrow.Author.Rules.{rules}
 use Rattle.boundary.proofs.refused_code.Statement.{statement}
 use Rattle.boundary.proofs.refused_code.Tie as tie
@@ -26,18 +26,18 @@ code-requires : tie.Need-code-requires
 code-requires c κs =
     let f = c.before.before in
     let j = f.before in
-    run-placed (run j) (start j).args.number _ _ j.judge.ensures f.refused.ensures _ c.refuse.ensures
+    run_placed (run j) (start j).args.number _ _ j.judge.ensures f.refused.ensures _ c.refuse.ensures
 
 returns : tie.Need-returns
 returns c =
     let t = c.before.before in
     let j = t.before.before in
-    run-code (run j) (start j).args.number _ _ j.judge.ensures t.before.refused.ensures t.if1.true _ c.before.refuse.ensures _ c.code.ensures
+    run_code (run j) (start j).args.number _ _ j.judge.ensures t.before.refused.ensures t.if1.true _ c.before.refuse.ensures _ c.code.ensures
 
 returns-2 : tie.Need-returns-2
 returns-2 c =
     let j = c.before.before in
-    own-number (run j) (start j).args.number _ _ j.judge.ensures c.before.refused.ensures c.if1.false
+    own_number_lem (run j) (start j).args.number _ _ j.judge.ensures c.before.refused.ensures c.if1.false
 
 pub refused-code-spec : {M : Type 1} → statement M
 refused-code-spec =

@@ -4,7 +4,7 @@ use mathlib.Core.Path.{sym, ◌∙◌}
 use mathlib.Core.List.{[]}
 use Rattle.runs.specs.Run.{Run, run_of}
 use Rattle.walk.specs.Rows.{read_rows}
-use Rattle.boundary.proofs.Calls.{price-code, price-placed, short-refused, short-accepted}
+use Rattle.boundary.proofs.Calls.{price_code, price_placed, short_refused, short_accepted}
 use borrow.Author.Rules.{rules}
 use Rattle.boundary.proofs.short_price.Statement.{statement}
 use Rattle.boundary.proofs.short_price.Tie as tie
@@ -29,19 +29,19 @@ code-requires : tie.Need-code-requires
 code-requires c κs =
     let p = c.before.before in
     let s = start p in
-    price-placed (run s) s.args.froms.now s.args.tos.now (read_rows [] []) p.price.result p.price.ensures.0
+    price_placed (run s) s.args.froms.now s.args.tos.now (read_rows [] []) p.price.result p.price.ensures.0
 
 returns : tie.Need-returns
 returns c = λ rows sums l.
     let p = c.before.before.before.before in
     let s = start p in
-    short-accepted (run s) s.args.froms.now s.args.tos.now (sym (price-code (run s) s.args.froms.now s.args.tos.now (read_rows [] []) p.price.result p.price.ensures.0) ∙ sym c.before.code.ensures ∙ c.if1.true) rows sums l
+    short_accepted (run s) s.args.froms.now s.args.tos.now (sym (price_code (run s) s.args.froms.now s.args.tos.now (read_rows [] []) p.price.result p.price.ensures.0) ∙ sym c.before.code.ensures ∙ c.if1.true) rows sums l
 
 returns-2 : tie.Need-returns-2
 returns-2 c = λ rows sums l.
     let p = c.before.before.before.before in
     let s = start p in
-    short-refused (run s) s.args.froms.now s.args.tos.now _ (c.before.code.ensures ∙ price-code (run s) s.args.froms.now s.args.tos.now (read_rows [] []) p.price.result p.price.ensures.0) c.if1.false rows sums l
+    short_refused (run s) s.args.froms.now s.args.tos.now _ (c.before.code.ensures ∙ price_code (run s) s.args.froms.now s.args.tos.now (read_rows [] []) p.price.result p.price.ensures.0) c.if1.false rows sums l
 
 pub short-price-spec : {M : Type 1} → statement M
 short-price-spec =

@@ -4,7 +4,7 @@ use mathlib.Core.Path.{sym, ◌∙◌}
 use mathlib.Core.List.{[]}
 use Rattle.runs.specs.Run.{Run, run_of}
 use Rattle.walk.specs.Rows.{read_rows}
-use Rattle.boundary.proofs.Calls.{any-price-code, any-price-placed, any-short-refused, any-short-accepted}
+use Rattle.boundary.proofs.Calls.{any_price_code, any_price_placed, any_short_refused, any_short_accepted}
 use borrow.Author.Rules.{rules}
 use Rattle.boundary.proofs.short_price_any.Statement.{statement}
 use Rattle.boundary.proofs.short_price_any.Tie as tie
@@ -29,19 +29,19 @@ code-requires : tie.Need-code-requires
 code-requires c κs =
     let p = c.before.before in
     let s = start p in
-    any-price-placed (run s) s.args.froms.now s.args.tos.now (read_rows [] []) p.price-any.result p.price-any.ensures.0
+    any_price_placed (run s) s.args.froms.now s.args.tos.now (read_rows [] []) p.price-any.result p.price-any.ensures.0
 
 returns : tie.Need-returns
 returns c = λ rows sums l.
     let p = c.before.before.before.before in
     let s = start p in
-    any-short-accepted (run s) s.args.froms.now s.args.tos.now (sym (any-price-code (run s) s.args.froms.now s.args.tos.now (read_rows [] []) p.price-any.result p.price-any.ensures.0) ∙ sym c.before.code.ensures ∙ c.if1.true) rows sums l
+    any_short_accepted (run s) s.args.froms.now s.args.tos.now (sym (any_price_code (run s) s.args.froms.now s.args.tos.now (read_rows [] []) p.price-any.result p.price-any.ensures.0) ∙ sym c.before.code.ensures ∙ c.if1.true) rows sums l
 
 returns-2 : tie.Need-returns-2
 returns-2 c = λ rows sums l.
     let p = c.before.before.before.before in
     let s = start p in
-    any-short-refused (run s) s.args.froms.now s.args.tos.now _ (c.before.code.ensures ∙ any-price-code (run s) s.args.froms.now s.args.tos.now (read_rows [] []) p.price-any.result p.price-any.ensures.0) c.if1.false rows sums l
+    any_short_refused (run s) s.args.froms.now s.args.tos.now _ (c.before.code.ensures ∙ any_price_code (run s) s.args.froms.now s.args.tos.now (read_rows [] []) p.price-any.result p.price-any.ensures.0) c.if1.false rows sums l
 
 pub short-price-any-spec : {M : Type 1} → statement M
 short-price-any-spec =

@@ -3,7 +3,7 @@
 use native.Mathlib.Omega.{arith}
 use Rattle.runs.specs.Run.{Run, run_of}
 use Rattle.planner.specs.Rows.{Rows, rows_of}
-use Rattle.boundary.proofs.Plans.{rule-refused, sums-refused, plan-placed, plan-refused, plan-filled}
+use Rattle.boundary.proofs.Plans.{rule_refused, sums_refused, plan_placed, plan_refused, plan_filled}
 use borrow.Author.Rules.{rules}
 use Rattle.boundary.proofs.violstream_plan.Statement.{statement}
 use Rattle.boundary.proofs.violstream_plan.Tie as tie
@@ -39,7 +39,7 @@ returns : tie.Need-returns
 returns c =
     let t = c.before in
     let s = at-start t in
-    rule-refused (run s) s.args.rule (rows s) s.args.sums.now (λ e. omega (arith, e, t.if1.true)) _ c.refused-code.ensures
+    rule_refused (run s) s.args.rule (rows s) s.args.sums.now (λ e. omega (arith, e, t.if1.true)) _ c.refused-code.ensures
 
 refused-code-requires-2 : tie.Need-refused-code-requires-2
 refused-code-requires-2 c κs = search rules
@@ -48,7 +48,7 @@ returns-2 : tie.Need-returns-2
 returns-2 c =
     let e = c.before.before in
     let s = start e in
-    sums-refused (run s) s.args.rule (rows s) s.args.sums.now e.if1.false c.before.if2.true _ c.refused-code2.ensures
+    sums_refused (run s) s.args.rule (rows s) s.args.sums.now e.if1.false c.before.if2.true _ c.refused-code2.ensures
 
 plan-requires : tie.Need-plan-requires
 plan-requires c κs = search rules
@@ -59,7 +59,7 @@ code-requires c κs =
     let g = at-if2 p in
     let e = g.before in
     let s = start e in
-    plan-placed (run s) s.args.rule (rows s) s.args.sums.now e.if1.left g.if2.left p.plan.result (after p) p.plan.ensures
+    plan_placed (run s) s.args.rule (rows s) s.args.sums.now e.if1.left g.if2.left p.plan.result (after p) p.plan.ensures
 
 same_length : tie.Need-same-length
 same_length c = (at-plan c.before.before).plan.auto.1.1.1.1.1.1.1.0
@@ -82,7 +82,7 @@ returns-3 c =
     let g = at-if2 p in
     let e = g.before in
     let s = start e in
-    plan-refused (run s) s.args.rule (rows s) s.args.sums.now e.if1.left g.if2.left p.plan.result (after p) p.plan.ensures
+    plan_refused (run s) s.args.rule (rows s) s.args.sums.now e.if1.left g.if2.left p.plan.result (after p) p.plan.ensures
     _ c.before.code.ensures c.if3.true
 
 fill-sums-requires : tie.Need-fill-sums-requires
@@ -114,7 +114,7 @@ returns-4 c =
     let g = at-if2 p in
     let e = g.before in
     let s = start e in
-    plan-filled (run s) s.args.rule (rows s) s.args.sums.now e.if1.left g.if2.left p.plan.result (after p) p.plan.ensures
+    plan_filled (run s) s.args.rule (rows s) s.args.sums.now e.if1.left g.if2.left p.plan.result (after p) p.plan.ensures
     _ d.before.code.ensures d.if3.false _ fs.fill-sums.ensures
 
 pub violstream-plan-spec : {M : Type 1} → statement M

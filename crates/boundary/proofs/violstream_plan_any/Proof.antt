@@ -7,7 +7,7 @@ use Rattle.runs.specs.Judging.{judge_of}
 use Rattle.runs.proofs.AnyHead.{judge_any_lem}
 use Rattle.planner.specs.Rows.{Rows, rows_of}
 use Rattle.boundary.specs.Private.{code_unless}
-use Rattle.boundary.proofs.AnyPlans.{any-sums-refused, any-plan-placed, any-plan-refused, any-plan-filled}
+use Rattle.boundary.proofs.AnyPlans.{any_sums_refused, any_plan_placed, any_plan_refused, any_plan_filled}
 use borrow.Author.Rules.{rules}
 use Rattle.boundary.proofs.violstream_plan_any.Statement.{statement}
 use Rattle.boundary.proofs.violstream_plan_any.Tie as tie
@@ -46,7 +46,7 @@ returns : tie.Need-returns
 returns c =
     let l = c.before in
     let s = at-start l.before in
-    any-sums-refused (run s) (rows s) s.args.sums.now l.before.if1.true _
+    any_sums_refused (run s) (rows s) s.args.sums.now l.before.if1.true _
     (◌∙◌ {b = code_unless (judge_of (lifted (run s))) 8} (rw l.lift-head.ensures at c.refused-code.ensures) (ap (λ v. code_unless v 8) (sym (judge_any_lem (run s)))))
 
 plan-any-requires : tie.Need-plan-any-requires
@@ -57,7 +57,7 @@ code-requires c κs =
     let p = at-plan c in
     let e = at-if1 p in
     let s = start e in
-    any-plan-placed (run s) (rows s) s.args.sums.now e.if1.left p.plan-any.result (after p) p.plan-any.ensures
+    any_plan_placed (run s) (rows s) s.args.sums.now e.if1.left p.plan-any.result (after p) p.plan-any.ensures
 
 same_length : tie.Need-same-length
 same_length c = (at-plan c.before.before).plan-any.auto.1.1.1.1.1.1.1.0
@@ -79,7 +79,7 @@ returns-2 c =
     let p = at-plan c.before.before in
     let e = at-if1 p in
     let s = start e in
-    any-plan-refused (run s) (rows s) s.args.sums.now e.if1.left p.plan-any.result (after p) p.plan-any.ensures _ c.before.code.ensures c.if2.true
+    any_plan_refused (run s) (rows s) s.args.sums.now e.if1.left p.plan-any.result (after p) p.plan-any.ensures _ c.before.code.ensures c.if2.true
 
 fill-sums-requires : tie.Need-fill-sums-requires
 fill-sums-requires c κs = search rules
@@ -109,7 +109,7 @@ returns-3 c =
     let p = at-plan d.before.before in
     let e = at-if1 p in
     let s = start e in
-    any-plan-filled (run s) (rows s) s.args.sums.now e.if1.left p.plan-any.result (after p) p.plan-any.ensures _ d.before.code.ensures d.if2.false _ fs.fill-sums.ensures
+    any_plan_filled (run s) (rows s) s.args.sums.now e.if1.left p.plan-any.result (after p) p.plan-any.ensures _ d.before.code.ensures d.if2.false _ fs.fill-sums.ensures
 
 pub violstream-plan-any-spec : {M : Type 1} → statement M
 violstream-plan-any-spec =

@@ -6,7 +6,7 @@ use Rattle.walk.specs.Price.{price_verdict}
 use Rattle.walk.specs.Rows.{ReadRows, read_rows}
 use Rattle.boundary.specs.Boundary.{code_of}
 use Rattle.walk.proofs.Priced.{price_accepted}
-use Rattle.boundary.proofs.Calls.{price-code, price-placed, code_refuses, code_accepts, call-is-price, call-reads, call-sums-kept, call-sums-filled, short_reads, short_sums}
+use Rattle.boundary.proofs.Calls.{price_code, price_placed, code_refuses, code_accepts, call_is_price, call_reads, call_sums_kept, call_sums_filled, short_reads, short_sums_lem}
 use borrow.Author.Rules.{rules}
 use Rattle.boundary.proofs.violstream_price.Statement.{statement}
 use Rattle.boundary.proofs.violstream_price.Tie as tie
@@ -38,14 +38,14 @@ returns c =
     record {
       says = c.short-price.ensures (rows s) s.args.sums.now c.before.if1.true;
       reads_are = short_reads (run s) s.args.detour-starts.now s.args.detour-ends.now (rows s) s.args.sums.now c.before.if1.true;
-      sums_are = short_sums (run s) s.args.detour-starts.now s.args.detour-ends.now (rows s) s.args.sums.now c.before.if1.true;
+      sums_are = short_sums_lem (run s) s.args.detour-starts.now s.args.detour-ends.now (rows s) s.args.sums.now c.before.if1.true;
     }
 
 price-requires : tie.Need-price-requires
 price-requires c κs = search rules
 
 code-requires : tie.Need-code-requires
-code-requires c κs = price-placed _ _ _ _ _ c.before.before.before.before.price.ensures.0
+code-requires c κs = price_placed _ _ _ _ _ c.before.before.before.before.price.ensures.0
 
 same_length : tie.Need-same-length
 same_length c = (at_price c.before).price.auto.1.1.1.1.1.1.1.1.1.0
@@ -55,12 +55,12 @@ returns-2 c =
     let p = at_price c.before in
     let e = p.before.before.before in
     let s = at-start e.before in
-    let is = c.before.code.ensures ∙ price-code (run s) s.args.detour-starts.now s.args.detour-ends.now (rows s) _ p.price.ensures.0 in
+    let is = c.before.code.ensures ∙ price_code (run s) s.args.detour-starts.now s.args.detour-ends.now (rows s) _ p.price.ensures.0 in
     record {
-      says = is ∙ sym (ap code_of (call-is-price (run s) s.args.detour-starts.now s.args.detour-ends.now (rows s) s.args.sums.now e.if1.left));
-      reads_are = call-reads (run s) s.args.detour-starts.now s.args.detour-ends.now (rows s) s.args.sums.now (after p) e.if1.left p.price.ensures.1;
+      says = is ∙ sym (ap code_of (call_is_price (run s) s.args.detour-starts.now s.args.detour-ends.now (rows s) s.args.sums.now e.if1.left));
+      reads_are = call_reads (run s) s.args.detour-starts.now s.args.detour-ends.now (rows s) s.args.sums.now (after p) e.if1.left p.price.ensures.1;
       sums_are =
-          call-sums-kept (run s) s.args.detour-starts.now s.args.detour-ends.now (rows s) s.args.sums.now e.if1.left
+          call_sums_kept (run s) s.args.detour-starts.now s.args.detour-ends.now (rows s) s.args.sums.now e.if1.left
           (code_refuses _ (λ z. c.if2.true (is ∙ z)) (price_accepted (run s) s.args.detour-starts.now s.args.detour-ends.now (rows s)));
     }
 
@@ -86,13 +86,13 @@ returns-3 c =
     let p = at_price d.before in
     let e = p.before.before.before in
     let s = at-start e.before in
-    let is = d.before.code.ensures ∙ price-code (run s) s.args.detour-starts.now s.args.detour-ends.now (rows s) _ p.price.ensures.0 in
+    let is = d.before.code.ensures ∙ price_code (run s) s.args.detour-starts.now s.args.detour-ends.now (rows s) _ p.price.ensures.0 in
     let none = sym is ∙ d.if2.false in
     record {
-      says = is ∙ sym (ap code_of (call-is-price (run s) s.args.detour-starts.now s.args.detour-ends.now (rows s) s.args.sums.now e.if1.left));
-      reads_are = call-reads (run s) s.args.detour-starts.now s.args.detour-ends.now (rows s) s.args.sums.now (after p) e.if1.left p.price.ensures.1;
+      says = is ∙ sym (ap code_of (call_is_price (run s) s.args.detour-starts.now s.args.detour-ends.now (rows s) s.args.sums.now e.if1.left));
+      reads_are = call_reads (run s) s.args.detour-starts.now s.args.detour-ends.now (rows s) s.args.sums.now (after p) e.if1.left p.price.ensures.1;
       sums_are =
-          call-sums-filled (run s) s.args.detour-starts.now s.args.detour-ends.now (rows s) s.args.sums.now _ _ e.if1.left
+          call_sums_filled (run s) s.args.detour-starts.now s.args.detour-ends.now (rows s) s.args.sums.now _ _ e.if1.left
           (code_accepts (price_verdict (run s) s.args.detour-starts.now s.args.detour-ends.now (rows s)) none) p.price.ensures.0 fs.fill-sums.ensures;
     }
 

@@ -5,8 +5,8 @@ use Rattle.runs.specs.Run.{Run, run_of}
 use Rattle.walk.specs.AnyHead.{price_any_verdict}
 use Rattle.walk.specs.Rows.{ReadRows, read_rows}
 use Rattle.boundary.specs.Boundary.{code_of}
-use Rattle.walk.proofs.Priced.{price-any-accepted}
-use Rattle.boundary.proofs.Calls.{any-price-code, any-price-placed, code_refuses, code_accepts, any-call-is-price, any-call-reads, any-call-sums-kept, any-call-sums-filled, any-short-reads, any-short-sums}
+use Rattle.walk.proofs.Priced.{price_any_accepted}
+use Rattle.boundary.proofs.Calls.{any_price_code, any_price_placed, code_refuses, code_accepts, any_call_is_price, any_call_reads, any_call_sums_kept, any_call_sums_filled, any_short_reads, any_short_sums}
 use borrow.Author.Rules.{rules}
 use Rattle.boundary.proofs.violstream_price_any.Statement.{statement}
 use Rattle.boundary.proofs.violstream_price_any.Tie as tie
@@ -37,15 +37,15 @@ returns c =
     let s = at-start c.before.before in
     record {
       says = c.short-price-any.ensures (rows s) s.args.sums.now c.before.if1.true;
-      reads_are = any-short-reads (run s) s.args.detour-starts.now s.args.detour-ends.now (rows s) s.args.sums.now c.before.if1.true;
-      sums_are = any-short-sums (run s) s.args.detour-starts.now s.args.detour-ends.now (rows s) s.args.sums.now c.before.if1.true;
+      reads_are = any_short_reads (run s) s.args.detour-starts.now s.args.detour-ends.now (rows s) s.args.sums.now c.before.if1.true;
+      sums_are = any_short_sums (run s) s.args.detour-starts.now s.args.detour-ends.now (rows s) s.args.sums.now c.before.if1.true;
     }
 
 price-any-requires : tie.Need-price-any-requires
 price-any-requires c κs = search rules
 
 code-requires : tie.Need-code-requires
-code-requires c κs = any-price-placed _ _ _ _ _ c.before.before.before.before.price-any.ensures.0
+code-requires c κs = any_price_placed _ _ _ _ _ c.before.before.before.before.price-any.ensures.0
 
 same_length : tie.Need-same-length
 same_length c = (at_price c.before).price-any.auto.1.1.1.1.1.1.1.1.1.0
@@ -55,13 +55,13 @@ returns-2 c =
     let p = at_price c.before in
     let e = p.before.before.before in
     let s = at-start e.before in
-    let is = c.before.code.ensures ∙ any-price-code (run s) s.args.detour-starts.now s.args.detour-ends.now (rows s) _ p.price-any.ensures.0 in
+    let is = c.before.code.ensures ∙ any_price_code (run s) s.args.detour-starts.now s.args.detour-ends.now (rows s) _ p.price-any.ensures.0 in
     record {
-      says = is ∙ sym (ap code_of (any-call-is-price (run s) s.args.detour-starts.now s.args.detour-ends.now (rows s) s.args.sums.now e.if1.left));
-      reads_are = any-call-reads (run s) s.args.detour-starts.now s.args.detour-ends.now (rows s) s.args.sums.now (after p) e.if1.left p.price-any.ensures.1;
+      says = is ∙ sym (ap code_of (any_call_is_price (run s) s.args.detour-starts.now s.args.detour-ends.now (rows s) s.args.sums.now e.if1.left));
+      reads_are = any_call_reads (run s) s.args.detour-starts.now s.args.detour-ends.now (rows s) s.args.sums.now (after p) e.if1.left p.price-any.ensures.1;
       sums_are =
-          any-call-sums-kept (run s) s.args.detour-starts.now s.args.detour-ends.now (rows s) s.args.sums.now e.if1.left
-          (code_refuses _ (λ z. c.if2.true (is ∙ z)) (price-any-accepted (run s) s.args.detour-starts.now s.args.detour-ends.now (rows s)));
+          any_call_sums_kept (run s) s.args.detour-starts.now s.args.detour-ends.now (rows s) s.args.sums.now e.if1.left
+          (code_refuses _ (λ z. c.if2.true (is ∙ z)) (price_any_accepted (run s) s.args.detour-starts.now s.args.detour-ends.now (rows s)));
     }
 
 fill-sums-requires : tie.Need-fill-sums-requires
@@ -86,13 +86,13 @@ returns-3 c =
     let p = at_price d.before in
     let e = p.before.before.before in
     let s = at-start e.before in
-    let is = d.before.code.ensures ∙ any-price-code (run s) s.args.detour-starts.now s.args.detour-ends.now (rows s) _ p.price-any.ensures.0 in
+    let is = d.before.code.ensures ∙ any_price_code (run s) s.args.detour-starts.now s.args.detour-ends.now (rows s) _ p.price-any.ensures.0 in
     let none = sym is ∙ d.if2.false in
     record {
-      says = is ∙ sym (ap code_of (any-call-is-price (run s) s.args.detour-starts.now s.args.detour-ends.now (rows s) s.args.sums.now e.if1.left));
-      reads_are = any-call-reads (run s) s.args.detour-starts.now s.args.detour-ends.now (rows s) s.args.sums.now (after p) e.if1.left p.price-any.ensures.1;
+      says = is ∙ sym (ap code_of (any_call_is_price (run s) s.args.detour-starts.now s.args.detour-ends.now (rows s) s.args.sums.now e.if1.left));
+      reads_are = any_call_reads (run s) s.args.detour-starts.now s.args.detour-ends.now (rows s) s.args.sums.now (after p) e.if1.left p.price-any.ensures.1;
       sums_are =
-          any-call-sums-filled (run s) s.args.detour-starts.now s.args.detour-ends.now (rows s) s.args.sums.now _ _ e.if1.left
+          any_call_sums_filled (run s) s.args.detour-starts.now s.args.detour-ends.now (rows s) s.args.sums.now _ _ e.if1.left
           (code_accepts (price_any_verdict (run s) s.args.detour-starts.now s.args.detour-ends.now (rows s)) none) p.price-any.ensures.0 fs.fill-sums.ensures;
     }
 

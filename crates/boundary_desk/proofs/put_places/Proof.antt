@@ -5,7 +5,7 @@ use mathlib.Core.Path.{◌≡◌, ◌∙◌}
 use native.Mathlib.Omega.{arith}
 use lib.ListN.{length, take, drop}
 use Rattle.boundary_desk.specs.Private.{places_of}
-use Rattle.boundary_desk.proofs.Taking.{Placing, placing-none, placing-more, placing-all, places-long, place-there}
+use Rattle.boundary_desk.proofs.Taking.{Placing, placing_none, placing_more, placing_all, places_long, place_there}
 use borrow.Author.Rules.{rules}
 use Rattle.boundary_desk.proofs.put_places.Statement.{statement}
 use Rattle.boundary_desk.proofs.put_places.Tie as tie
@@ -20,7 +20,7 @@ long : (s : tie.Start invariant-loop decreases-loop) → length s.args.t3 ≡ 32
 long s = search rules
 
 loop-holds : tie.Need-loop-init invariant-loop decreases-loop
-loop-holds c = placing-none _ _ _ _
+loop-holds c = placing_none _ _ _ _
 
 add-t : tie.Need-overflow-add-t invariant-loop decreases-loop
 add-t c = omega (arith, c.before.before.before.requires.0)
@@ -54,15 +54,15 @@ loop-again c =
     let l = c.before.before in
     let s = l.before.before.before in
     let a = s.args in
-    placing-more a.taken.now a.at (places_of a.numbers (take a.n (drop a.first a.t3))) a.n _ _ l.before.loop.invariant l.loop-test.true
-    (places-long a.numbers a.t3 (long s) a.first a.n s.requires.0) s.requires.1 _ _
-    (c.want-place.ensures ∙ place-there a.numbers a.t3 (long s) a.first a.n s.requires.0 l.before.loop.i l.loop-test.true)
+    placing_more a.taken.now a.at (places_of a.numbers (take a.n (drop a.first a.t3))) a.n _ _ l.before.loop.invariant l.loop-test.true
+    (places_long a.numbers a.t3 (long s) a.first a.n s.requires.0) s.requires.1 _ _
+    (c.want-place.ensures ∙ place_there a.numbers a.t3 (long s) a.first a.n s.requires.0 l.before.loop.i l.loop-test.true)
 
 same_length : tie.Need-same-length invariant-loop decreases-loop
 same_length c = c.before.loop.invariant.same
 
 returns : tie.Need-returns invariant-loop decreases-loop
-returns c = placing-all _ _ _ _ _ _ c.before.loop.invariant c.loop-test.false
+returns c = placing_all _ _ _ _ _ _ c.before.loop.invariant c.loop-test.false
 
 pub put-places-spec : {M : Type 1} → statement M
 put-places-spec =

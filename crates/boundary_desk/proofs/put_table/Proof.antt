@@ -4,7 +4,7 @@ use Prim.Native.Nat.{◌-◌}
 use mathlib.Core.Path.{◌≡◌, refl}
 use native.Mathlib.Omega.{arith}
 use lib.ListN.{length}
-use Rattle.boundary_desk.proofs.Filling.{Put, put-none, put-more, put_all}
+use Rattle.boundary_desk.proofs.Filling.{Put, put_none, put_more, put_all}
 use borrow.Author.Rules.{rules}
 use Rattle.boundary_desk.proofs.put_table.Statement.{statement}
 use Rattle.boundary_desk.proofs.put_table.Tie as tie
@@ -19,7 +19,7 @@ long : (s : tie.Start invariant-loop decreases-loop) → length s.args.t2 ≡ 32
 long s = search rules
 
 loop-holds : tie.Need-loop-init invariant-loop decreases-loop
-loop-holds c = put-none c.args.tickets.now c.args.t2
+loop-holds c = put_none c.args.tickets.now c.args.t2
 
 mul-t : tie.Need-overflow-mul-t invariant-loop decreases-loop
 mul-t c = search rules
@@ -48,7 +48,7 @@ loop-again : tie.Need-loop-preserved invariant-loop decreases-loop
 loop-again c =
     let l = c.before.before.before in
     let s = l.before in
-    put-more s.args.tickets.now s.args.t2 _ _ l.loop.invariant (long s) s.requires c.before.before.loop-test.true _ refl _ c.words_of.ensures
+    put_more s.args.tickets.now s.args.t2 _ _ l.loop.invariant (long s) s.requires c.before.before.loop-test.true _ refl _ c.words_of.ensures
 
 same_length : tie.Need-same-length invariant-loop decreases-loop
 same_length c = c.before.loop.invariant.same

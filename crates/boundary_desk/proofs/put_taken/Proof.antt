@@ -7,7 +7,7 @@ use native.Mathlib.Omega.{arith}
 use lib.ListN.{length, length-set}
 use lib.Seq.{paste}
 use Rattle.boundary_desk.proofs.Filling.{two_set, two_set_long}
-use Rattle.boundary_desk.proofs.Taking.{s1, taken-so}
+use Rattle.boundary_desk.proofs.Taking.{s1, taken_so}
 use borrow.Author.Rules.{rules}
 use Rattle.boundary_desk.proofs.put_taken.Statement.{statement}
 use Rattle.boundary_desk.proofs.put_taken.Tie as tie
@@ -56,7 +56,7 @@ returns c =
     let s = at-start pp in
     let a = s.args in
     let b = a.boarded in
-    taken-so a.row (long s) b s.pre.0 a.taken.now s.pre.1 _ _
+    taken_so a.row (long s) b s.pre.0 a.taken.now s.pre.1 _ _
     (pp.put-places.ensures
     ∙ ap (λ (x : List ℕ). paste x 2 (s1 a.row (long s) b s.pre.0 a.taken.now s.pre.1) b.taken.one) (two_set b.taken.one b.taken.two a.taken.now (omega (arith, s.pre.1))))
     p2.put-places2.ensures

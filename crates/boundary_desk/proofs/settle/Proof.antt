@@ -3,7 +3,7 @@
 use mathlib.Core.Path.{◌≡◌, sym, ◌∙◌}
 use mathlib.Core.Bool.{false}
 use Rattle.refusals.specs.Refusals.{is_refusal}
-use Rattle.boundary_desk.proofs.Answers.{settled-refused, settled-done}
+use Rattle.boundary_desk.proofs.Answers.{settled_refused, settled_done}
 use borrow.Author.Rules.{rules}
 use Rattle.boundary_desk.proofs.settle.Statement.{statement}
 use Rattle.boundary_desk.proofs.settle.Tie as tie
@@ -29,7 +29,7 @@ returns c =
     let f = c.before in
     let d = f.before in
     let a = (at-start d).args in
-    settled-refused a.row a.done a.tickets.now a.taken.now a.sums.now _ d.code_of_lem.ensures _ f.refused.ensures c.if1.true
+    settled_refused a.row a.done a.tickets.now a.taken.now a.sums.now _ d.code_of_lem.ensures _ f.refused.ensures c.if1.true
 
 put-table-requires : tie.Need-put-table-requires
 put-table-requires c κs = let e = c.before.before in (at-start e.before.before).requires.records (accepts e)
@@ -61,7 +61,7 @@ returns-2 c =
     let f = e.before in
     let d = f.before in
     let a = (at-start d).args in
-    settled-done a.row a.done a.tickets.now a.taken.now a.sums.now _ d.code_of_lem.ensures _ f.refused.ensures e.if1.false _ t.put-table.ensures _ k.put-taken.ensures _ q.fill-sums.ensures
+    settled_done a.row a.done a.tickets.now a.taken.now a.sums.now _ d.code_of_lem.ensures _ f.refused.ensures e.if1.false _ t.put-table.ensures _ k.put-taken.ensures _ q.fill-sums.ensures
 
 pub settle-spec : {M : Type 1} → statement M
 settle-spec =

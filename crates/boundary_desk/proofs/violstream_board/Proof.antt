@@ -2,7 +2,7 @@
 -- Assumes nothing.
 use Rattle.planner.specs.Rows.{Rows, rows_of}
 use Rattle.desk_boardings.specs.Boardings.{Tape}
-use Rattle.boundary_desk.proofs.Answers.{can-settle, board-called}
+use Rattle.boundary_desk.proofs.Answers.{can_settle, board_called}
 use borrow.Author.Rules.{rules}
 use Rattle.boundary_desk.proofs.violstream_board.Statement.{statement}
 use Rattle.boundary_desk.proofs.violstream_board.Tie as tie
@@ -47,7 +47,7 @@ settle-requires c κs =
     let p = at_places w in
     let s = at-start p in
     let a = s.args in
-    can-settle a.tickets.now a.lasts.now (tape s) a.head a.turn (rows s) a.taken.now a.sums.now _ _ _ _ _ _ _
+    can_settle a.tickets.now a.lasts.now (tape s) a.head a.turn (rows s) a.taken.now a.sums.now _ _ _ _ _ _ _
     p.before.before.before.before.table_at.ensures p.before.before.before.lasts-in.ensures p.before.before.places-if.ensures
     p.before.places-if2.ensures p.places-if3.ensures
     w.board-in.ensures
@@ -83,7 +83,7 @@ returns c =
     let p = at_places w in
     let s = at-start p in
     let a = s.args in
-    board-called a.tickets.now a.lasts.now (tape s) a.head a.turn (rows s) a.taken.now a.sums.now _ _ _ _ _ _ _
+    board_called a.tickets.now a.lasts.now (tape s) a.head a.turn (rows s) a.taken.now a.sums.now _ _ _ _ _ _ _
     p.before.before.before.before.table_at.ensures p.before.before.before.lasts-in.ensures p.before.before.places-if.ensures
     p.before.places-if2.ensures p.places-if3.ensures
     w.board-in.ensures _ _ _ _ q.settle.ensures

@@ -6,7 +6,7 @@ use lib.ListN.{length-set}
 use lib.Seq.{length-take-le}
 use Rattle.desk_boardings.specs.Boardings.{Tape}
 use Rattle.boundary_desk.proofs.Filling.{one_set}
-use Rattle.boundary_desk.proofs.Answers.{Fit, event-placed, event-fits, event-refused, event-done}
+use Rattle.boundary_desk.proofs.Answers.{Fit, event_placed, event_fits, event_refused, event_done}
 use borrow.Author.Rules.{rules}
 use Rattle.boundary_desk.proofs.violstream_event.Statement.{statement}
 use Rattle.boundary_desk.proofs.violstream_event.Tie as tie
@@ -44,7 +44,7 @@ fits e =
     let ta = li.before.before in
     let s = at-start' ta in
     let a = s.args in
-    event-fits a.tickets.now a.lasts.now a.sizes.now (tape s) a.line.now a.out.now a.room.now _ _ _ _ _ _ _ _ ta.table_at.ensures
+    event_fits a.tickets.now a.lasts.now a.sizes.now (tape s) a.line.now a.out.now a.room.now _ _ _ _ _ _ _ _ ta.table_at.ensures
     li.lasts-in.ensures o.before.before.places-if.ensures o.before.places-if2.ensures o.one_line.ensures.0 w.answer.ensures _ f.refused.ensures e.if1.false
 
 table-at-requires : tie.Need-table-at-requires
@@ -76,7 +76,7 @@ code-of-requires c κs =
     let ta = li.before.before in
     let s = at-start' ta in
     let a = s.args in
-    event-placed a.tickets.now a.lasts.now a.sizes.now (tape s) a.line.now a.out.now a.room.now _ _ _ _ _ _ _ _ ta.table_at.ensures
+    event_placed a.tickets.now a.lasts.now a.sizes.now (tape s) a.line.now a.out.now a.room.now _ _ _ _ _ _ _ _ ta.table_at.ensures
     li.lasts-in.ensures o.before.before.places-if.ensures o.before.places-if2.ensures o.one_line.ensures.0 w.answer.ensures
 
 refused-requires : tie.Need-refused-requires
@@ -103,7 +103,7 @@ returns c =
     let ta = li.before.before in
     let s = at-start' ta in
     let a = s.args in
-    event-refused a.tickets.now a.lasts.now a.sizes.now (tape s) a.line.now a.out.now a.room.now _ _ _ _ _ _ _ _ ta.table_at.ensures
+    event_refused a.tickets.now a.lasts.now a.sizes.now (tape s) a.line.now a.out.now a.room.now _ _ _ _ _ _ _ _ ta.table_at.ensures
     li.lasts-in.ensures o.before.before.places-if.ensures o.before.places-if2.ensures o.one_line.ensures.0 w.answer.ensures _ f.refused.ensures
     c.if1.true _ f.before.code_of_lem.ensures
 
@@ -146,7 +146,7 @@ returns-2 c =
     let ta = li.before.before in
     let s = at-start' ta in
     let a = s.args in
-    event-done a.tickets.now a.lasts.now a.sizes.now (tape s) a.line.now a.out.now a.room.now _ _ _ _ _ _ _ _ ta.table_at.ensures
+    event_done a.tickets.now a.lasts.now a.sizes.now (tape s) a.line.now a.out.now a.room.now _ _ _ _ _ _ _ _ ta.table_at.ensures
     li.lasts-in.ensures o.before.before.places-if.ensures o.before.places-if2.ensures o.one_line.ensures.0 w.answer.ensures _ f.refused.ensures
     e.if1.false _ f.before.code_of_lem.ensures _ t.put-table.ensures _ q.put-lasts.ensures _ (one_set _ a.sizes.now (fits e).one)
 

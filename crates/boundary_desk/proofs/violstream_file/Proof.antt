@@ -5,8 +5,8 @@ use mathlib.Core.Path.{refl}
 use lib.ListN.{length-set}
 use native.Mathlib.Omega.{arith}
 use Rattle.boundary_desk.proofs.Filling.{one_set}
-use Rattle.boundary_desk.proofs.Calling.{filing-near}
-use Rattle.boundary_desk.proofs.Answers.{Fit, file-fits, file-refused, file-done}
+use Rattle.boundary_desk.proofs.Calling.{filing_near}
+use Rattle.boundary_desk.proofs.Answers.{Fit, file_fits, file_refused, file_done}
 use borrow.Author.Rules.{rules}
 use Rattle.boundary_desk.proofs.violstream_file.Statement.{statement}
 use Rattle.boundary_desk.proofs.violstream_file.Tie as tie
@@ -25,7 +25,7 @@ fits e =
     let w = at-work f in
     let p = w.before in
     let a = (at-start w).args in
-    file-fits a.tickets.now a.lasts.now a.given.now a.office a.file a.count a.files _ _ _ _ _ p.before.before.before.before.table_at.ensures
+    file_fits a.tickets.now a.lasts.now a.given.now a.office a.file a.count a.files _ _ _ _ _ p.before.before.before.before.table_at.ensures
     p.before.before.lasts-in.ensures p.before.places-if.ensures p.places-if2.ensures w.file-in.ensures _ f.refused.ensures e.if1.false
 
 table-at-requires : tie.Need-table-at-requires
@@ -44,7 +44,7 @@ file-in-requires : tie.Need-file-in-requires
 file-in-requires c κs = search rules
 
 code-of-requires : tie.Need-code-of-requires
-code-of-requires c κs = filing-near _ _ _ _ c.before.before.file-in.ensures
+code-of-requires c κs = filing_near _ _ _ _ c.before.before.file-in.ensures
 
 refused-requires : tie.Need-refused-requires
 refused-requires c κs = search rules
@@ -61,7 +61,7 @@ returns c =
     let w = at-work f in
     let p = w.before in
     let a = (at-start w).args in
-    file-refused a.tickets.now a.lasts.now a.given.now a.office a.file a.count a.files _ _ _ _ _ p.before.before.before.before.table_at.ensures
+    file_refused a.tickets.now a.lasts.now a.given.now a.office a.file a.count a.files _ _ _ _ _ p.before.before.before.before.table_at.ensures
     p.before.before.lasts-in.ensures p.before.places-if.ensures p.places-if2.ensures w.file-in.ensures _ f.refused.ensures c.if1.true
     _ f.before.code_of_lem.ensures
 
@@ -99,7 +99,7 @@ returns-2 c =
     let w = at-work f in
     let p = w.before in
     let a = (at-start w).args in
-    file-done a.tickets.now a.lasts.now a.given.now a.office a.file a.count a.files _ _ _ _ _ p.before.before.before.before.table_at.ensures
+    file_done a.tickets.now a.lasts.now a.given.now a.office a.file a.count a.files _ _ _ _ _ p.before.before.before.before.table_at.ensures
     p.before.before.lasts-in.ensures p.before.places-if.ensures p.places-if2.ensures w.file-in.ensures _ f.refused.ensures e.if1.false
     _ f.before.code_of_lem.ensures _ t.put-table.ensures _ q.put-lasts.ensures _ (one_set _ a.given.now (fits e).one)
 

@@ -3,7 +3,7 @@
 use Prim.Native.Nat.{◌≤◌}
 use lib.ListN.{length, length-set}
 use Rattle.boundary_desk.proofs.Filling.{one_set}
-use Rattle.boundary_desk.proofs.Waiting.{waiting-near, waiting-fits, waiting-refused, waiting-told}
+use Rattle.boundary_desk.proofs.Waiting.{waiting_near, waiting_fits, waiting_refused, waiting_told}
 use borrow.Author.Rules.{rules}
 use Rattle.boundary_desk.proofs.violstream_waiting.Statement.{statement}
 use Rattle.boundary_desk.proofs.violstream_waiting.Tie as tie
@@ -28,7 +28,7 @@ tell-waiting-requires : tie.Need-tell-waiting-requires
 tell-waiting-requires c κs = search rules
 
 code-of-requires : tie.Need-code-of-requires
-code-of-requires c κs = waiting-near _ _ _ _ _ c.before.before.tell-waiting.ensures
+code-of-requires c κs = waiting_near _ _ _ _ _ c.before.before.tell-waiting.ensures
 
 refused-requires : tie.Need-refused-requires
 refused-requires c κs = search rules
@@ -42,7 +42,7 @@ returns c =
     let w = at-work f in
     let p = at_places w in
     let a = (at-start p).args in
-    waiting-refused a.tickets.now a.out.now a.sizes.now _ _ _ _ p.before.table_at.ensures p.places-if.ensures w.tell-waiting.ensures _ f.refused.ensures c.if1.true
+    waiting_refused a.tickets.now a.out.now a.sizes.now _ _ _ _ p.before.table_at.ensures p.places-if.ensures w.tell-waiting.ensures _ f.refused.ensures c.if1.true
     _ f.before.code_of_lem.ensures
 
 fits : (e : tie.Else1) → let a = (at-start (at_places (at-work e.before))).args in 1 ≤ length a.sizes.now
@@ -51,7 +51,7 @@ fits e =
     let w = at-work f in
     let p = at_places w in
     let a = (at-start p).args in
-    waiting-fits a.tickets.now a.out.now a.sizes.now _ _ _ _ p.before.table_at.ensures p.places-if.ensures w.tell-waiting.ensures _ f.refused.ensures e.if1.false
+    waiting_fits a.tickets.now a.out.now a.sizes.now _ _ _ _ p.before.table_at.ensures p.places-if.ensures w.tell-waiting.ensures _ f.refused.ensures e.if1.false
 
 slice-write-sizes : tie.Need-slice-write-sizes
 slice-write-sizes c = fits c
@@ -68,7 +68,7 @@ returns-2 c =
     let w = at-work f in
     let p = at_places w in
     let a = (at-start p).args in
-    waiting-told a.tickets.now a.out.now a.sizes.now _ _ _ _ p.before.table_at.ensures p.places-if.ensures w.tell-waiting.ensures _ f.refused.ensures c.if1.false
+    waiting_told a.tickets.now a.out.now a.sizes.now _ _ _ _ p.before.table_at.ensures p.places-if.ensures w.tell-waiting.ensures _ f.refused.ensures c.if1.false
     _ f.before.code_of_lem.ensures _ (one_set _ a.sizes.now (fits c))
 
 pub violstream-waiting-spec : {M : Type 1} → statement M

@@ -1,8 +1,8 @@
 -- `boundary_desk::violstream_withdraw` meets its contract: the withdrawal by value on the table in the row, and the table back where it is accepted.
 -- Assumes nothing.
 use mathlib.Core.Path.{refl}
-use Rattle.boundary_desk.proofs.Calling.{withdrawal-near}
-use Rattle.boundary_desk.proofs.Answers.{withdraw-fits, withdraw-refused, withdraw-done}
+use Rattle.boundary_desk.proofs.Calling.{withdrawal_near}
+use Rattle.boundary_desk.proofs.Answers.{withdraw_fits, withdraw_refused, withdraw_done}
 use borrow.Author.Rules.{rules}
 use Rattle.boundary_desk.proofs.violstream_withdraw.Statement.{statement}
 use Rattle.boundary_desk.proofs.violstream_withdraw.Tie as tie
@@ -27,7 +27,7 @@ withdraw-in-requires : tie.Need-withdraw-in-requires
 withdraw-in-requires c κs = search rules
 
 code-of-requires : tie.Need-code-of-requires
-code-of-requires c κs = withdrawal-near _ _ _ _ c.before.before.withdraw-in.ensures
+code-of-requires c κs = withdrawal_near _ _ _ _ c.before.before.withdraw-in.ensures
 
 refused-requires : tie.Need-refused-requires
 refused-requires c κs = search rules
@@ -41,7 +41,7 @@ returns c =
     let w = at-work f in
     let p = w.before in
     let a = (at-start w).args in
-    withdraw-refused a.tickets.now a.lasts.now a.office a.number _ _ _ _ p.before.before.table_at.ensures p.before.lasts-in.ensures p.places-if.ensures
+    withdraw_refused a.tickets.now a.lasts.now a.office a.number _ _ _ _ p.before.before.table_at.ensures p.before.lasts-in.ensures p.places-if.ensures
     w.withdraw-in.ensures _ f.refused.ensures c.if1.true _ f.before.code_of_lem.ensures
 
 put-table-requires : tie.Need-put-table-requires
@@ -51,7 +51,7 @@ put-table-requires c κs =
     let w = at-work f in
     let p = w.before in
     let a = (at-start w).args in
-    withdraw-fits a.tickets.now a.lasts.now a.office a.number _ _ _ _ p.before.before.table_at.ensures p.before.lasts-in.ensures p.places-if.ensures
+    withdraw_fits a.tickets.now a.lasts.now a.office a.number _ _ _ _ p.before.before.table_at.ensures p.before.lasts-in.ensures p.places-if.ensures
     w.withdraw-in.ensures _ f.refused.ensures e.if1.false
 
 same-length-2 : tie.Need-same-length-2
@@ -65,7 +65,7 @@ returns-2 c =
     let w = at-work f in
     let p = w.before in
     let a = (at-start w).args in
-    withdraw-done a.tickets.now a.lasts.now a.office a.number _ _ _ _ p.before.before.table_at.ensures p.before.lasts-in.ensures p.places-if.ensures
+    withdraw_done a.tickets.now a.lasts.now a.office a.number _ _ _ _ p.before.before.table_at.ensures p.before.lasts-in.ensures p.places-if.ensures
     w.withdraw-in.ensures _ f.refused.ensures e.if1.false _ f.before.code_of_lem.ensures _ t.put-table.ensures
 
 pub violstream-withdraw-spec : {M : Type 1} → statement M

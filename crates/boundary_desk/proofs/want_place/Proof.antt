@@ -6,7 +6,7 @@ use native.Mathlib.Omega.{arith}
 use native.Mathlib.Numerals.{add-one}
 use lib.ListN.{length}
 use borrow.Author.Tests.{eq-eqb, ne_eqb}
-use Rattle.answer_desk.proofs.Looking.{Sought, sought_none, sought-more, sought-here, sought-all}
+use Rattle.answer_desk.proofs.Looking.{Sought, sought_none, sought_more, sought_here, sought_all}
 use borrow.Author.Rules.{rules}
 use Rattle.boundary_desk.proofs.want_place.Statement.{statement}
 use Rattle.boundary_desk.proofs.want_place.Tie as tie
@@ -38,7 +38,7 @@ returns c =
     let a = t.before in
     let s = a.before in
     add-one a.loop.i
-    ∙ ap suc (sought-here s.args.file s.args.t2 a.loop.i a.loop.invariant.1 (rw (long s) t.loop-test.true) (eq-eqb _ _ c.if1.true))
+    ∙ ap suc (sought_here s.args.file s.args.t2 a.loop.i a.loop.invariant.1 (rw (long s) t.loop-test.true) (eq-eqb _ _ c.if1.true))
 
 add-i : tie.Need-overflow-add-i invariant-loop decreases-loop
 add-i c = search rules
@@ -47,13 +47,13 @@ loop-less : tie.Need-loop-smaller invariant-loop decreases-loop
 loop-less c = search rules
 
 loop-again : tie.Need-loop-preserved invariant-loop decreases-loop
-loop-again c = let t = c.before in let a = t.before in let s = a.before in (omega (arith, t.loop-test.true), sought-more s.args.file s.args.t2 a.loop.i a.loop.invariant.1 (rw (long s) t.loop-test.true) (ne_eqb _ _ c.if1.false))
+loop-again c = let t = c.before in let a = t.before in let s = a.before in (omega (arith, t.loop-test.true), sought_more s.args.file s.args.t2 a.loop.i a.loop.invariant.1 (rw (long s) t.loop-test.true) (ne_eqb _ _ c.if1.false))
 
 returns-2 : tie.Need-returns-2 invariant-loop decreases-loop
 returns-2 c =
     let a = c.before in
     let s = a.before in
-    omega (arith, a.loop.invariant.0, c.loop-test.false, sought-all s.args.file s.args.t2 a.loop.i a.loop.invariant.1 (rw (long s) c.loop-test.false))
+    omega (arith, a.loop.invariant.0, c.loop-test.false, sought_all s.args.file s.args.t2 a.loop.i a.loop.invariant.1 (rw (long s) c.loop-test.false))
 
 pub want-place-spec : {M : Type 1} → statement M
 want-place-spec =

@@ -1,7 +1,7 @@
 -- `boundary_pick::short_pick` meets its contract: no empty row takes a sheet, so something is refused.
 -- Assumes nothing.
 use borrow.Author.Rules.{rules}
-use Rattle.boundary_pick.proofs.Calling.{number_small, called-short}
+use Rattle.boundary_pick.proofs.Calling.{number_small, called_short}
 use Rattle.boundary_pick.proofs.short_pick.Statement.{statement}
 use Rattle.boundary_pick.proofs.short_pick.Tie as tie
 
@@ -29,7 +29,7 @@ code-of-requires c κs =
 returns : tie.Need-returns
 returns c =
     let a = (at-start-from-code-of c).args in
-    called-short a.unit a.name.now a.label.now a.index.now a.list.now a.head.now a.turn.now _ _ _ c.before.before.before.pick.ensures _ c.code_of_lem.ensures
+    called_short a.unit a.name.now a.label.now a.index.now a.list.now a.head.now a.turn.now _ _ _ c.before.before.before.pick.ensures _ c.code_of_lem.ensures
 
 pub short-pick-spec : {M : Type 1} → statement M
 short-pick-spec = tie.close (tie.spec slice-aggregate-pick slice-aggregate-pick-2 pick-requires code-of-requires returns)

@@ -1,7 +1,7 @@
 -- `boundary_pick::violstream_pick` meets its contract: no words for the lengths, a refusal, or both texts with their lengths.
 -- Assumes nothing.
 use borrow.Author.Rules.{rules}
-use Rattle.boundary_pick.proofs.Calling.{number_small, called-refused, called-told}
+use Rattle.boundary_pick.proofs.Calling.{number_small, called_refused, called_told}
 use Rattle.boundary_pick.proofs.violstream_pick.Statement.{statement}
 use Rattle.boundary_pick.proofs.violstream_pick.Tie as tie
 
@@ -44,7 +44,7 @@ same-length-2 c = search rules
 returns-2 : tie.Need-returns-2
 returns-2 c =
     let a = (at-start-from-then2 c).args in
-    called-refused a.unit a.tape.now a.label.now a.index.now a.list.now a.head.now a.turn.now _ _ _ (at-else1-from-then2 c).if1.false _ _ _ c.before.before.before.before.before.before.before.pick.ensures _ c.before.before.code_of_lem.ensures c.if2.true
+    called_refused a.unit a.tape.now a.label.now a.index.now a.list.now a.head.now a.turn.now _ _ _ (at-else1-from-then2 c).if1.false _ _ _ c.before.before.before.before.before.before.before.pick.ensures _ c.before.before.code_of_lem.ensures c.if2.true
 
 slice-write-sizes : tie.Need-slice-write-sizes
 slice-write-sizes c = search rules
@@ -64,7 +64,7 @@ same-length-5 c = search rules
 returns-3 : tie.Need-returns-3
 returns-3 c =
     let a = (at-start-from-else2 c).args in
-    called-told a.unit a.tape.now a.label.now a.index.now a.list.now a.head.now a.turn.now _ _ _ (at-else1-from-else2 c).if1.false _ _ _ c.before.before.before.before.before.before.before.pick.ensures _ c.before.before.code_of_lem.ensures c.if2.false
+    called_told a.unit a.tape.now a.label.now a.index.now a.list.now a.head.now a.turn.now _ _ _ (at-else1-from-else2 c).if1.false _ _ _ c.before.before.before.before.before.before.before.pick.ensures _ c.before.before.code_of_lem.ensures c.if2.false
 
 pub violstream-pick-spec : {M : Type 1} → statement M
 violstream-pick-spec = tie.close (tie.spec short-pick-requires returns pick-requires code-of-requires same_length same-length-2 returns-2 slice-write-sizes slice-write-sizes-2 same-length-3 same-length-4 same-length-5 returns-3)

@@ -1,6 +1,6 @@
 -- `boundary_texts::short_code` meets its contract: 8 where nothing else is refused.
 -- Assumes nothing.
-use Rattle.boundary_texts.proofs.Answered.{code-refused, code-eight}
+use Rattle.boundary_texts.proofs.Answered.{code_refused, code_eight}
 use borrow.Author.Rules.{rules}
 use Rattle.boundary_texts.proofs.short_code.Statement.{statement}
 use Rattle.boundary_texts.proofs.short_code.Tie as tie
@@ -15,13 +15,13 @@ returns : tie.Need-returns
 returns c =
     let f = c.before in
     let d = f.before in
-    code-refused d.before.args.v _ d.code_of_lem.ensures _ f.refused.ensures c.if1.true
+    code_refused d.before.args.v _ d.code_of_lem.ensures _ f.refused.ensures c.if1.true
 
 returns-2 : tie.Need-returns-2
 returns-2 c =
     let f = c.before in
     let d = f.before in
-    code-eight d.before.args.v _ d.code_of_lem.ensures _ f.refused.ensures c.if1.false
+    code_eight d.before.args.v _ d.code_of_lem.ensures _ f.refused.ensures c.if1.false
 
 pub short-code-spec : {M : Type 1} → statement M
 short-code-spec = tie.close (tie.spec code-of-requires refused-requires returns returns-2)

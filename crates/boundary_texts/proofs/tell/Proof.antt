@@ -2,7 +2,7 @@
 -- Assumes nothing.
 use lib.ListN.{length-set}
 use native.Mathlib.Omega.{arith}
-use Rattle.boundary_texts.proofs.Answered.{told-refused, told_one}
+use Rattle.boundary_texts.proofs.Answered.{told_refused, told_one}
 use borrow.Author.Rules.{rules}
 use Rattle.boundary_texts.proofs.tell.Statement.{statement}
 use Rattle.boundary_texts.proofs.tell.Tie as tie
@@ -18,7 +18,7 @@ returns c =
     let f = c.before in
     let d = f.before in
     let a = d.before.before.args in
-    told-refused a.v _ d.code_of_lem.ensures _ f.refused.ensures a.bytes a.sizes.now c.if1.true
+    told_refused a.v _ d.code_of_lem.ensures _ f.refused.ensures a.bytes a.sizes.now c.if1.true
 
 slice-write-sizes : tie.Need-slice-write-sizes
 slice-write-sizes c = search rules

@@ -2,7 +2,7 @@
 -- Assumes nothing.
 use mathlib.Core.Path.{◌∙◌}
 use lib.ListN.{length-set, set}
-use Rattle.boundary_texts.proofs.Mended.{both-refused, both_told}
+use Rattle.boundary_texts.proofs.Mended.{both_refused, both_told}
 use borrow.Author.Rules.{rules}
 use Rattle.boundary_texts.proofs.tell_both.Statement.{statement}
 use Rattle.boundary_texts.proofs.tell_both.Tie as tie
@@ -18,7 +18,7 @@ returns c =
     let f = c.before in
     let d = f.before in
     let a = d.before.before.args in
-    both-refused a.v a.mended a.noted a.sizes.now _ d.code_of_lem.ensures _ f.refused.ensures c.if1.true
+    both_refused a.v a.mended a.noted a.sizes.now _ d.code_of_lem.ensures _ f.refused.ensures c.if1.true
 
 slice-write-sizes : tie.Need-slice-write-sizes
 slice-write-sizes c = search rules

@@ -1,7 +1,7 @@
 -- `boundary_texts::violstream_answer` meets its contract: the answer by value, and its text's length.
 -- Assumes nothing.
 use native.Mathlib.Omega.{arith}
-use Rattle.boundary_texts.proofs.Answered.{answer-near, answer-called, answer-short}
+use Rattle.boundary_texts.proofs.Answered.{answer_near, answer_called, answer_short}
 use borrow.Author.Rules.{rules}
 use Rattle.boundary_texts.proofs.violstream_answer.Statement.{statement}
 use Rattle.boundary_texts.proofs.violstream_answer.Tie as tie
@@ -35,7 +35,7 @@ verdict-of-requires : tie.Need-verdict-of-requires
 verdict-of-requires c κs = search rules
 
 short-code-requires : tie.Need-short-code-requires
-short-code-requires c κs = answer-near (at-work c).answer.ensures _ c.verdict-of.ensures
+short-code-requires c κs = answer_near (at-work c).answer.ensures _ c.verdict-of.ensures
 
 same_length : tie.Need-same-length
 same_length c = (at-work c.before).answer.auto.1.1.0
@@ -46,7 +46,7 @@ returns c =
     let w = at-work q in
     let t = at_test w in
     let a = (at-start t).args in
-    answer-short w.answer.ensures _ q.verdict-of.ensures _ c.short-code.ensures a.out.now a.sizes.now t.if1.taken
+    answer_short w.answer.ensures _ q.verdict-of.ensures _ c.short-code.ensures a.out.now a.sizes.now t.if1.taken
 
 answer-requires-2 : tie.Need-answer-requires-2
 answer-requires-2 c κs = search rules
@@ -59,7 +59,7 @@ tell-requires c κs =
     let q = c.before in
     let w = at-work-2 q in
     let t = at-test-2 w in
-    (answer-near w.answer2.ensures _ q.verdict-of2.ensures, omega (arith, t.if1.left))
+    (answer_near w.answer2.ensures _ q.verdict-of2.ensures, omega (arith, t.if1.left))
 
 same-length-2 : tie.Need-same-length-2
 same-length-2 c = (at-work-2 c.before.before.before.before).answer2.auto.1.0
@@ -77,7 +77,7 @@ returns-2 c =
     let w = at-work-2 q in
     let t = at-test-2 w in
     let a = (at-start-2 t).args in
-    answer-called w.answer2.ensures a.sizes.now (omega (arith, t.if1.left)) _ q.verdict-of2.ensures _ _ f.tell.ensures
+    answer_called w.answer2.ensures a.sizes.now (omega (arith, t.if1.left)) _ q.verdict-of2.ensures _ _ f.tell.ensures
 
 pub violstream-answer-spec : {M : Type 1} → statement M
 violstream-answer-spec =

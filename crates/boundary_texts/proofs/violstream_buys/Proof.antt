@@ -1,7 +1,7 @@
 -- `boundary_texts::violstream_buys` meets its contract: the figures by value, and its text's length.
 -- Assumes nothing.
 use native.Mathlib.Omega.{arith}
-use Rattle.boundary_texts.proofs.Answered.{figured-near, buys-called, buys-short}
+use Rattle.boundary_texts.proofs.Answered.{figured_near, buys_called, buys_short}
 use borrow.Author.Rules.{rules}
 use Rattle.boundary_texts.proofs.violstream_buys.Statement.{statement}
 use Rattle.boundary_texts.proofs.violstream_buys.Tie as tie
@@ -35,7 +35,7 @@ verdict-of-requires : tie.Need-verdict-of-requires
 verdict-of-requires c κs = search rules
 
 short-code-requires : tie.Need-short-code-requires
-short-code-requires c κs = figured-near (at-work c).answer.ensures _ c.verdict-of.ensures
+short-code-requires c κs = figured_near (at-work c).answer.ensures _ c.verdict-of.ensures
 
 same_length : tie.Need-same-length
 same_length c = (at-work c.before).answer.auto.1.1.0
@@ -46,7 +46,7 @@ returns c =
     let w = at-work q in
     let t = at_test w in
     let a = (at-start t).args in
-    buys-short w.answer.ensures _ q.verdict-of.ensures _ c.short-code.ensures a.out.now a.sizes.now t.if1.taken
+    buys_short w.answer.ensures _ q.verdict-of.ensures _ c.short-code.ensures a.out.now a.sizes.now t.if1.taken
 
 answer-requires-2 : tie.Need-answer-requires-2
 answer-requires-2 c κs = search rules
@@ -59,7 +59,7 @@ tell-requires c κs =
     let q = c.before in
     let w = at-work-2 q in
     let t = at-test-2 w in
-    (figured-near w.answer2.ensures _ q.verdict-of2.ensures, omega (arith, t.if1.left))
+    (figured_near w.answer2.ensures _ q.verdict-of2.ensures, omega (arith, t.if1.left))
 
 same-length-2 : tie.Need-same-length-2
 same-length-2 c = (at-work-2 c.before.before.before.before).answer2.auto.1.0
@@ -77,7 +77,7 @@ returns-2 c =
     let w = at-work-2 q in
     let t = at-test-2 w in
     let a = (at-start-2 t).args in
-    buys-called w.answer2.ensures a.sizes.now (omega (arith, t.if1.left)) _ q.verdict-of2.ensures _ _ f.tell.ensures
+    buys_called w.answer2.ensures a.sizes.now (omega (arith, t.if1.left)) _ q.verdict-of2.ensures _ _ f.tell.ensures
 
 pub violstream-buys-spec : {M : Type 1} → statement M
 violstream-buys-spec =

@@ -1,7 +1,7 @@
 -- `boundary_texts::violstream_check` meets its contract: the verdict by value, and its text's length.
 -- Assumes nothing.
 use native.Mathlib.Omega.{arith}
-use Rattle.boundary_texts.proofs.Answered.{checked-near, check-called, check-short}
+use Rattle.boundary_texts.proofs.Answered.{checked_near, check_called, check_short}
 use borrow.Author.Rules.{rules}
 use Rattle.boundary_texts.proofs.violstream_check.Statement.{statement}
 use Rattle.boundary_texts.proofs.violstream_check.Tie as tie
@@ -35,7 +35,7 @@ verdict-of-requires : tie.Need-verdict-of-requires
 verdict-of-requires c κs = search rules
 
 short-code-requires : tie.Need-short-code-requires
-short-code-requires c κs = checked-near (at-work c).check.ensures _ c.verdict-of.ensures
+short-code-requires c κs = checked_near (at-work c).check.ensures _ c.verdict-of.ensures
 
 same_length : tie.Need-same-length
 same_length c = (at-work c.before).check.auto.1.1.1.0
@@ -46,7 +46,7 @@ returns c =
     let w = at-work q in
     let t = at_test w in
     let a = (at-start t).args in
-    check-short w.check.ensures _ q.verdict-of.ensures _ c.short-code.ensures a.out.now a.sizes.now t.if1.taken
+    check_short w.check.ensures _ q.verdict-of.ensures _ c.short-code.ensures a.out.now a.sizes.now t.if1.taken
 
 check-requires-2 : tie.Need-check-requires-2
 check-requires-2 c κs = search rules
@@ -59,7 +59,7 @@ tell-requires c κs =
     let q = c.before in
     let w = at-work-2 q in
     let t = at-test-2 w in
-    (checked-near w.check2.ensures _ q.verdict-of2.ensures, omega (arith, t.if1.left))
+    (checked_near w.check2.ensures _ q.verdict-of2.ensures, omega (arith, t.if1.left))
 
 same-length-2 : tie.Need-same-length-2
 same-length-2 c = (at-work-2 c.before.before.before.before).check2.auto.1.1.0
@@ -77,7 +77,7 @@ returns-2 c =
     let w = at-work-2 q in
     let t = at-test-2 w in
     let a = (at-start-2 t).args in
-    check-called w.check2.ensures a.sizes.now (omega (arith, t.if1.left)) _ q.verdict-of2.ensures _ _ f.tell.ensures
+    check_called w.check2.ensures a.sizes.now (omega (arith, t.if1.left)) _ q.verdict-of2.ensures _ _ f.tell.ensures
 
 pub violstream-check-spec : {M : Type 1} → statement M
 violstream-check-spec =

@@ -1,7 +1,7 @@
 -- `boundary_texts::violstream_mend` meets its contract: the mender by value, and the lengths of its two texts.
 -- Assumes nothing.
 use native.Mathlib.Omega.{arith}
-use Rattle.boundary_texts.proofs.Mended.{mended-near, mend-called, mend-short}
+use Rattle.boundary_texts.proofs.Mended.{mended_near, mend_called, mend_short}
 use borrow.Author.Rules.{rules}
 use Rattle.boundary_texts.proofs.violstream_mend.Statement.{statement}
 use Rattle.boundary_texts.proofs.violstream_mend.Tie as tie
@@ -38,7 +38,7 @@ verdict-in-requires : tie.Need-verdict-in-requires
 verdict-in-requires c κs = search rules
 
 short-code-requires : tie.Need-short-code-requires
-short-code-requires c κs = mended-near _ _ _ _ _ _ (at-work c).mend.ensures _ c.verdict-in.ensures
+short-code-requires c κs = mended_near _ _ _ _ _ _ (at-work c).mend.ensures _ c.verdict-in.ensures
 
 returns : tie.Need-returns
 returns c =
@@ -46,7 +46,7 @@ returns c =
     let w = at-work q in
     let t = at_test w in
     let a = (at-start t).args in
-    mend-short _ _ _ _ w.mend.ensures _ q.verdict-in.ensures _ c.short-code.ensures a.out.now a.changes.now a.sizes.now t.if1.taken
+    mend_short _ _ _ _ w.mend.ensures _ q.verdict-in.ensures _ c.short-code.ensures a.out.now a.changes.now a.sizes.now t.if1.taken
 
 mend-requires-2 : tie.Need-mend-requires-2
 mend-requires-2 c κs = search rules
@@ -59,7 +59,7 @@ tell-both-requires c κs =
     let q = c.before in
     let w = at-work-2 q in
     let t = at-test-2 w in
-    (mended-near _ _ _ _ _ _ w.mend2.ensures _ q.verdict-in2.ensures, omega (arith, t.if1.left))
+    (mended_near _ _ _ _ _ _ w.mend2.ensures _ q.verdict-in2.ensures, omega (arith, t.if1.left))
 
 same_length : tie.Need-same-length
 same_length c = (at-work-2 c.before.before.before.before).mend2.auto.1.0
@@ -77,7 +77,7 @@ returns-2 c =
     let w = at-work-2 q in
     let t = at-test-2 w in
     let a = (at-start-2 t).args in
-    mend-called _ _ _ _ _ _ w.mend2.ensures a.sizes.now (omega (arith, t.if1.left)) _ q.verdict-in2.ensures _ _ f.tell-both.ensures
+    mend_called _ _ _ _ _ _ w.mend2.ensures a.sizes.now (omega (arith, t.if1.left)) _ q.verdict-in2.ensures _ _ f.tell-both.ensures
 
 pub violstream-mend-spec : {M : Type 1} → statement M
 violstream-mend-spec =

@@ -9,7 +9,7 @@ use Rattle.planner.specs.Rows.{Rows, rows_of}
 use Rattle.desk_boardings.specs.Boarders.{wants_of}
 use Rattle.desk_boardings.specs.Boardings.{Tape, want_rows}
 use Rattle.desk_boardings.specs.Private.{SoundRow}
-use Rattle.desk_boardings.proofs.Answers.{row-refused, run-boarded, within_eight}
+use Rattle.desk_boardings.proofs.Answers.{row_refused, run_boarded, within_eight}
 use borrow.Author.Rules.{rules}
 use Rattle.desk_boardings.proofs.board_in.Statement.{statement}
 use Rattle.desk_boardings.proofs.board_in.Tie as tie
@@ -61,7 +61,7 @@ not-boarded-requires c κs = search rules
 
 returns : tie.Need-returns
 returns c = let t = c.before.before in let f = t.before in let j = judged f in let a = (start j).args in
-    row-refused a.len (tape j) a.row a.boarding (rows j) c.not-boarded.result j.judge-row.result j.judge-row.ensures f.refused.result f.refused.ensures
+    row_refused a.len (tape j) a.row a.boarding (rows j) c.not-boarded.result j.judge-row.result j.judge-row.ensures f.refused.result f.refused.ensures
     t.if1.true c.before.refuse.result c.before.refuse.ensures c.not-boarded.ensures
 
 taken-of-requires : tie.Need-taken-of-requires
@@ -116,7 +116,7 @@ same-length-5 c = (planned c.before).plan.auto.1.1.1.1.1.1.1.1.1.1.1.0
 
 returns-2 : tie.Need-returns-2
 returns-2 c = let p = planned c.before in let w = gathered (counted p) in let e = w.before.before in let f = e.before in let j = judged f in let a = (start j).args in
-    run-boarded a.len (tape j) a.row a.boarding (rows j) c.boarded-by.result j.judge-row.result j.judge-row.ensures f.refused.result f.refused.ensures
+    run_boarded a.len (tape j) a.row a.boarding (rows j) c.boarded-by.result j.judge-row.result j.judge-row.ensures f.refused.result f.refused.ensures
     e.if1.left (left p) p.plan.result w.wants-of.result (wanted w) p.plan.ensures c.boarded-by.ensures
 
 pub board-in-spec : {M : Type 1} → statement M

@@ -5,7 +5,7 @@ mod Tie
 use mathlib.Core.Path.{◌≡◌}
 use lib.ListN.{length}
 use Rattle.answer_desk.proofs.Leaving.{unmapped}
-use Rattle.desk_rows.proofs.Events.{lent-so}
+use Rattle.desk_rows.proofs.Events.{lent_so}
 use borrow.Author.Rules.{rules}
 use Rattle.desk_rows.proofs.answer.Statement.{statement}
 use Rattle.desk_rows.proofs.answer.Proof.Tie as tie
@@ -48,7 +48,7 @@ returns : tie.Need-returns
 returns c =
     let a = answered c in
     let o = copied a in
-    lent-so (start o).args.lasts _ _ _ _ _ _ _ _ _ a.answer.result _ o.copy-out.ensures a.answer.ensures (whole a) c.before.before.copy-in.ensures c.told-by.ensures
+    lent_so (start o).args.lasts _ _ _ _ _ _ _ _ _ a.answer.result _ o.copy-out.ensures a.answer.ensures (whole a) c.before.before.copy-in.ensures c.told-by.ensures
 
 pub answer-spec : {M : Type 1} → statement M
 answer-spec =

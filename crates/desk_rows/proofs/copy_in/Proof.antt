@@ -5,8 +5,8 @@ mod Tie
 use Prim.Native.Nat.{◌-◌}
 use mathlib.Core.Path.{◌∙◌}
 use native.Mathlib.Omega.{arith}
-use Rattle.desk_rows.proofs.Places.{row-from-places}
-use Rattle.desk_rows.proofs.Copying.{Copied, copied_none, copied-one-more, copied_all}
+use Rattle.desk_rows.proofs.Places.{row_from_places}
+use Rattle.desk_rows.proofs.Copying.{Copied, copied_none, copied_one_more, copied_all}
 use borrow.Author.Rules.{rules}
 use Rattle.desk_rows.proofs.copy_in.Statement.{statement}
 use Rattle.desk_rows.proofs.copy_in.Proof.Tie as tie
@@ -42,7 +42,7 @@ loop-less : tie.Need-loop-smaller invariant-loop decreases-loop
 loop-less c = search rules
 
 loop-again : tie.Need-loop-preserved invariant-loop decreases-loop
-loop-again c = copied-one-more _ _ _ _ _ c.before.before.loop.invariant _ c.before.loop-test.true
+loop-again c = copied_one_more _ _ _ _ _ c.before.before.loop.invariant _ c.before.loop-test.true
 
 same_length : tie.Need-same-length invariant-loop decreases-loop
 same_length c = c.before.loop.invariant.same
@@ -50,7 +50,7 @@ same_length c = c.before.loop.invariant.same
 returns : tie.Need-returns invariant-loop decreases-loop
 returns c =
     let s = c.before.before in
-    copied_all _ _ _ _ _ c.before.loop.invariant c.loop-test.false ∙ row-from-places _ _ s.used.ensures _ (omega arith)
+    copied_all _ _ _ _ _ c.before.loop.invariant c.loop-test.false ∙ row_from_places _ _ s.used.ensures _ (omega arith)
 
 pub copy_in_spec : {M : Type 1} → statement M
 copy_in_spec =

@@ -8,8 +8,8 @@ use mathlib.Core.List.{List, ◌++◌}
 use native.Mathlib.Omega.{arith}
 use lib.ListN.{length, take, drop}
 use Rattle.desk_tickets.specs.declared.Ticket.{Ticket}
-use Rattle.desk_rows.proofs.Places.{table-from-places}
-use Rattle.desk_rows.proofs.Copying.{Copied, copied_none, copied-one-more, copied_all}
+use Rattle.desk_rows.proofs.Places.{table_from_places}
+use Rattle.desk_rows.proofs.Copying.{Copied, copied_none, copied_one_more, copied_all}
 use borrow.Author.Rules.{rules}
 use Rattle.desk_rows.proofs.copy_out.Statement.{statement}
 use Rattle.desk_rows.proofs.copy_out.Proof.Tie as tie
@@ -49,14 +49,14 @@ loop-less : tie.Need-loop-smaller invariant-loop decreases-loop
 loop-less c = search rules
 
 loop-again : tie.Need-loop-preserved invariant-loop decreases-loop
-loop-again c = copied-one-more _ _ _ _ _ c.before.before.loop.invariant _ c.before.loop-test.true
+loop-again c = copied_one_more _ _ _ _ _ c.before.before.loop.invariant _ c.before.loop-test.true
 
 returns : tie.Need-returns invariant-loop decreases-loop
 returns c =
     let s = c.before.before in
     copied_all _ _ _ _ _ c.before.loop.invariant c.loop-test.false
     ∙ ap (λ (empty : List Ticket). take s.used.result s.before.before.args.ts.now ++ drop s.used.result empty) s.before.blank.ensures
-    ∙ table-from-places _ _ s.used.ensures
+    ∙ table_from_places _ _ s.used.ensures
 
 pub copy-out-spec : {M : Type 1} → statement M
 copy-out-spec =

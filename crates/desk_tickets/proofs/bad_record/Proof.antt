@@ -5,7 +5,7 @@ use mathlib.Core.Bool.{Bool, true, false}
 use native.Mathlib.Omega.{arith}
 use lib.ListN.{get_or}
 use Rattle.desk_tickets.specs.WaitingTable.{no_ticket, is_empty_place}
-use Rattle.desk_tickets.proofs.Records.{isTicketHere, bad-not-empty, bad-not-ticket, bad-first, bad-behind, behind_another}
+use Rattle.desk_tickets.proofs.Records.{isTicketHere, bad_not_empty, bad_not_ticket, bad_first, bad_behind, behind_another}
 use borrow.Author.Rules.{rules}
 use Rattle.desk_tickets.proofs.bad_record.Statement.{statement}
 use Rattle.desk_tickets.proofs.bad_record.Tie as tie
@@ -20,7 +20,7 @@ is-empty-requires : tie.Need-is-empty-requires
 is-empty-requires c κs = search rules
 
 returns : tie.Need-returns
-returns c = let a = c.before.before.before.args in bad-not-empty a.lasts a.t1 a.i (sym c.before.is-empty.ensures ∙ c.if1.true)
+returns c = let a = c.before.before.before.args in bad_not_empty a.lasts a.t1 a.i (sym c.before.is-empty.ensures ∙ c.if1.true)
 
 office-at-requires : tie.Need-office-at-requires
 office-at-requires c κs = search rules
@@ -52,7 +52,7 @@ returns-2 c =
     let t = c.before.before.before in
     let e = tested t in
     let a = (start e).args in
-    bad-first a.lasts a.t1 a.i (full e) (ticket true t c.before.before.if2.true) (sym c.before.is-first-place.ensures ∙ c.if3.true)
+    bad_first a.lasts a.t1 a.i (full e) (ticket true t c.before.before.if2.true) (sym c.before.is-first-place.ensures ∙ c.if3.true)
 
 sub-ahead : tie.Need-overflow-sub-ahead
 sub-ahead c = let s = start (tested c.before.before.before) in let h = behind_another s.args.i (sym c.before.is-first-place.ensures ∙ c.if3.false) in omega arith
@@ -72,14 +72,14 @@ returns-3 c =
     let t = d.before.before.before in
     let e = tested t in
     let a = (start e).args in
-    bad-behind a.lasts a.t1 a.i (full e) (ticket true t d.before.before.if2.true) (sym d.before.is-first-place.ensures ∙ d.if3.false) c.follows_on.ensures
+    bad_behind a.lasts a.t1 a.i (full e) (ticket true t d.before.before.if2.true) (sym d.before.is-first-place.ensures ∙ d.if3.false) c.follows_on.ensures
 
 returns-4 : tie.Need-returns-4
 returns-4 c =
     let t = c.before in
     let e = tested t in
     let a = (start e).args in
-    bad-not-ticket a.lasts a.t1 a.i (full e) (ticket false t c.if2.false)
+    bad_not_ticket a.lasts a.t1 a.i (full e) (ticket false t c.if2.false)
 
 pub bad-record-spec : {M : Type 1} → statement M
 bad-record-spec =

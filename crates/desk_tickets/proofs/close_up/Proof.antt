@@ -9,7 +9,7 @@ use lib.ListN.{length, set}
 use lib.Seq.{paste, paste-zero, paste-suc}
 use Rattle.desk_tickets.specs.WaitingTable.{no_ticket}
 use Rattle.desk_tickets.specs.Private.{closed_up}
-use Rattle.desk_tickets.proofs.Placed.{closed-long}
+use Rattle.desk_tickets.proofs.Placed.{closed_long}
 use Rattle.desk_tickets.proofs.close_up.Statement.{statement}
 use Rattle.desk_tickets.proofs.close_up.Tie as tie
 
@@ -45,7 +45,7 @@ loop-less c = search rules
 
 loop-again : tie.Need-loop-preserved invariant-loop decreases-loop
 loop-again c = let l = c.before.before in let s = l.before in let a = s.args in let t = closed_up a.first a.p a.n a.row in
-    (omega (arith, c.before.loop-test.true), ap (λ x. set x (a.first + l.loop.i) c.moved_up.result) l.loop.invariant.1 ∙ ap (λ x. set (paste a.row a.first t l.loop.i) (a.first + l.loop.i) x) c.moved_up.ensures ∙ paste-suc a.row a.first t l.loop.i no_ticket (omega (arith, s.requires, long s, c.before.loop-test.true)) (rw (closed-long a.first a.row s.requires (long s) a.p a.n) c.before.loop-test.true) ∙ ap (λ k. paste a.row a.first t k) (sym (add-one l.loop.i)))
+    (omega (arith, c.before.loop-test.true), ap (λ x. set x (a.first + l.loop.i) c.moved_up.result) l.loop.invariant.1 ∙ ap (λ x. set (paste a.row a.first t l.loop.i) (a.first + l.loop.i) x) c.moved_up.ensures ∙ paste-suc a.row a.first t l.loop.i no_ticket (omega (arith, s.requires, long s, c.before.loop-test.true)) (rw (closed_long a.first a.row s.requires (long s) a.p a.n) c.before.loop-test.true) ∙ ap (λ k. paste a.row a.first t k) (sym (add-one l.loop.i)))
 
 returns : tie.Need-returns invariant-loop decreases-loop
 returns c = let l = c.before in let a = l.before.args in let e : l.loop.i ≡ 16 = omega (arith, l.loop.invariant.0, c.loop-test.false) in l.loop.invariant.1 ∙ ap (λ k. paste a.row a.first (closed_up a.first a.p a.n a.row) k) e

@@ -6,7 +6,7 @@ use mathlib.Core.Path.{◌≡◌, sym, ◌∙◌}
 use native.Mathlib.Omega.{arith}
 use borrow.Author.Rules.{rules}
 use lib.ListN.{length, get_or}
-use Rattle.desk_tickets.proofs.Halves.{CountedAt, places_from, places-long, place-in-row, counted_none, counted-more, counted-to-empty, counted-all, first_place_within}
+use Rattle.desk_tickets.proofs.Halves.{CountedAt, places_from, places_long, place_in_row, counted_none, counted_more, counted_to_empty, counted_all, first_place_within}
 use Rattle.desk_tickets.specs.WaitingTable.{no_ticket, is_empty_place}
 use mathlib.Core.Bool.{Bool}
 use Rattle.desk_tickets.proofs.count_waiting.Statement.{statement}
@@ -52,16 +52,16 @@ abbrev first : tie.At-loop invariant-loop decreases-loop → Prim.Native.Nat.ℕ
 first a = a.before.first-place.result
 
 here : (b : Bool) (e : tie.After-is-empty invariant-loop decreases-loop) → e.is-empty.result ≡ b → is_empty_place (get_or (places_from (first (at e)) (row (at e))) (at e).loop.n no_ticket) ≡ b
-here b e h = let a = at e in rw (place-in-row (first a) (row a) a.loop.inv.in_row (long a.before.before) a.loop.n e.before.before.loop-test.true) (sym e.is-empty.ensures ∙ h)
+here b e h = let a = at e in rw (place_in_row (first a) (row a) a.loop.inv.in_row (long a.before.before) a.loop.n e.before.before.loop-test.true) (sym e.is-empty.ensures ∙ h)
 
 below : (e : tie.After-is-empty invariant-loop decreases-loop) → (at e).loop.n < length (places_from (first (at e)) (row (at e)))
-below e = let a = at e in rw (places-long (first a) (row a) a.loop.inv.in_row (long a.before.before)) e.before.before.loop-test.true
+below e = let a = at e in rw (places_long (first a) (row a) a.loop.inv.in_row (long a.before.before)) e.before.before.loop-test.true
 
 returns : tie.Need-returns invariant-loop decreases-loop
 returns c =
     let e = c.before in
     let a = at e in
-    rw (← a.loop.inv.begins) (counted-to-empty (places_from (first a) (row a)) a.loop.n a.loop.inv.so_far (below e) (here mathlib.Core.Bool.true e c.if1.true))
+    rw (← a.loop.inv.begins) (counted_to_empty (places_from (first a) (row a)) a.loop.n a.loop.inv.so_far (below e) (here mathlib.Core.Bool.true e c.if1.true))
 
 add-n : tie.Need-overflow-add-n invariant-loop decreases-loop
 add-n c = search rules
@@ -73,12 +73,12 @@ loop-again : tie.Need-loop-preserved invariant-loop decreases-loop
 loop-again c =
     let e = c.before in
     let a = at e in
-    record { begins = a.loop.inv.begins; in_row = a.loop.inv.in_row; so_far = counted-more (places_from (first a) (row a)) a.loop.n a.loop.inv.so_far (below e) (here mathlib.Core.Bool.false e c.if1.false) }
+    record { begins = a.loop.inv.begins; in_row = a.loop.inv.in_row; so_far = counted_more (places_from (first a) (row a)) a.loop.n a.loop.inv.so_far (below e) (here mathlib.Core.Bool.false e c.if1.false) }
 
 returns-2 : tie.Need-returns-2 invariant-loop decreases-loop
 returns-2 c =
     let a = c.before in
-    rw (← a.loop.invariant.begins) (counted-all (places_from (first a) (row a)) a.loop.n a.loop.invariant.so_far (rw (places-long (first a) (row a) a.loop.invariant.in_row (long a.before.before)) c.loop-test.false))
+    rw (← a.loop.invariant.begins) (counted_all (places_from (first a) (row a)) a.loop.n a.loop.invariant.so_far (rw (places_long (first a) (row a) a.loop.invariant.in_row (long a.before.before)) c.loop-test.false))
 
 pub count-waiting-spec : {M : Type 1} → statement M
 count-waiting-spec =

@@ -7,7 +7,7 @@ use native.Mathlib.Omega.{arith}
 use lib.ListN.{length}
 use Rattle.refusals.proofs.Verdicts.{refuses}
 use Rattle.desk_tickets.proofs.Halves.{first_place_within}
-use Rattle.desk_tickets.proofs.Storing.{file-refused, file-stored, store-fits, number_fits}
+use Rattle.desk_tickets.proofs.Storing.{file_refused, file_stored, store_fits, number_fits}
 use borrow.Author.Rules.{rules}
 use Rattle.desk_tickets.proofs.file_in.Statement.{statement}
 use Rattle.desk_tickets.proofs.file_in.Tie as tie
@@ -34,7 +34,7 @@ fits n =
     let e = n.before.before.before in
     let j = judged e in
     let a = j.before.args in
-    let w = store-fits a.len a.row a.filing j.judge-filing.result j.judge-filing.ensures (accepts e) in
+    let w = store_fits a.len a.row a.filing j.judge-filing.result j.judge-filing.ensures (accepts e) in
     let p = first_place_within a.filing.office in
     rw (n.before.first-place.ensures, n.count-waiting.ensures) (omega arith)
 
@@ -48,7 +48,7 @@ returns : tie.Need-returns
 returns c =
     let j = c.before.before.before in
     let a = j.before.args in
-    file-refused a.len a.row a.filing j.judge-filing.result j.judge-filing.ensures (sym c.before.refused.ensures ∙ c.if1.true)
+    file_refused a.len a.row a.filing j.judge-filing.result j.judge-filing.ensures (sym c.before.refused.ensures ∙ c.if1.true)
 
 last-of-requires : tie.Need-last-of-requires
 last-of-requires c κs = search rules
@@ -80,7 +80,7 @@ returns-2 c =
     let l = n.before.before in
     let j = judged l.before in
     let a = j.before.args in
-    file-stored a.len a.row a.filing j.judge-filing.result j.judge-filing.ensures (long j.before) (accepts l.before)
+    file_stored a.len a.row a.filing j.judge-filing.result j.judge-filing.ensures (long j.before) (accepts l.before)
     l.last-of.result n.before.first-place.result n.count-waiting.result c.lasts-with.result
     l.last-of.ensures n.before.first-place.ensures n.count-waiting.ensures c.lasts-with.ensures
 

@@ -5,7 +5,7 @@ use mathlib.Core.Path.{◌≡◌, sym, ◌∙◌}
 use native.Mathlib.Omega.{arith}
 use borrow.Author.Rules.{rules}
 use Rattle.refusals.specs.Refusals.{first_where}
-use Rattle.runs.proofs.Search.{first_none, first_more, first-here, first_done}
+use Rattle.runs.proofs.Search.{first_none, first_more, first_here, first_done}
 use Rattle.desk_tickets.specs.WaitingTable.{bad_record}
 use Rattle.desk_tickets.proofs.first_bad_record.Statement.{statement}
 use Rattle.desk_tickets.proofs.first_bad_record.Tie as tie
@@ -26,7 +26,7 @@ add-result : tie.Need-overflow-add-result invariant-loop decreases-loop
 add-result c = search rules
 
 returns : tie.Need-returns invariant-loop decreases-loop
-returns c = let a = c.before.before.before in sym (first-here (bad_record a.before.args.lasts a.before.args.row) a.loop.i 32 a.loop.invariant.1 (sym c.before.bad_record.ensures ∙ c.if1.true) c.before.before.loop-test.true)
+returns c = let a = c.before.before.before in sym (first_here (bad_record a.before.args.lasts a.before.args.row) a.loop.i 32 a.loop.invariant.1 (sym c.before.bad_record.ensures ∙ c.if1.true) c.before.before.loop-test.true)
 
 add-i : tie.Need-overflow-add-i invariant-loop decreases-loop
 add-i c = search rules

@@ -8,7 +8,7 @@ use borrow.Author.Rules.{rules}
 use borrow.Author.Tests.{eq-eqb, ne_eqb}
 use Rattle.desk_tickets.specs.WaitingTable.{no_ticket, waiting}
 use Rattle.desk_tickets.proofs.Halves.{first_place_within}
-use Rattle.desk_tickets.proofs.Leaving.{Sought, sought_none, sought-more, sought-here, sought-all, waiting_few, waiting-at}
+use Rattle.desk_tickets.proofs.Leaving.{Sought, sought_none, sought_more, sought_here, sought_all, waiting_few, waiting_at}
 use Rattle.desk_tickets.proofs.index_of.Statement.{statement}
 use Rattle.desk_tickets.proofs.index_of.Tie as tie
 
@@ -49,7 +49,7 @@ here : (c : tie.In-loop invariant-loop decreases-loop)
 here c =
     let s = start c in
     ap (λ p. get_or s.args.t1 (p + c.before.loop.i) no_ticket) c.before.before.before.first-place.ensures
-    ∙ waiting-at s.args.office s.args.t1 (long s) c.before.loop.i (below c)
+    ∙ waiting_at s.args.office s.args.t1 (long s) c.before.loop.i (below c)
 
 add-t : tie.Need-overflow-add-t invariant-loop decreases-loop
 add-t c = omega (arith, place c)
@@ -64,7 +64,7 @@ returns : tie.Need-returns invariant-loop decreases-loop
 returns c =
     let l = c.before.before.before in
     let a = (start l).args in
-    sought-here a.number (waiting a.office a.t1) l.before.loop.i l.before.loop.invariant (below l) (rw (← here l) (eq-eqb _ _ c.if1.true))
+    sought_here a.number (waiting a.office a.t1) l.before.loop.i l.before.loop.invariant (below l) (rw (← here l) (eq-eqb _ _ c.if1.true))
 
 add-i : tie.Need-overflow-add-i invariant-loop decreases-loop
 add-i c = search rules
@@ -76,14 +76,14 @@ loop-again : tie.Need-loop-preserved invariant-loop decreases-loop
 loop-again c =
     let l = c.before.before.before in
     let a = (start l).args in
-    sought-more a.number (waiting a.office a.t1) l.before.loop.i l.before.loop.invariant (below l) (rw (← here l) (ne_eqb _ _ c.if1.false))
+    sought_more a.number (waiting a.office a.t1) l.before.loop.i l.before.loop.invariant (below l) (rw (← here l) (ne_eqb _ _ c.if1.false))
 
 returns-2 : tie.Need-returns-2 invariant-loop decreases-loop
 returns-2 c =
     let n = c.before.before in
     let a = n.before.before.args in
     n.count-waiting.ensures
-    ∙ sought-all a.number (waiting a.office a.t1) c.before.loop.i c.before.loop.invariant (rw n.count-waiting.ensures at c.loop-test.false)
+    ∙ sought_all a.number (waiting a.office a.t1) c.before.loop.i c.before.loop.invariant (rw n.count-waiting.ensures at c.loop-test.false)
 
 pub index-of-spec : {M : Type 1} → statement M
 index-of-spec =

@@ -3,7 +3,7 @@
 use mathlib.Core.Path.{◌≡◌, sym, ◌∙◌}
 use lib.ListN.{length}
 use Rattle.desk_tickets.proofs.Halves.{first_place_within}
-use Rattle.desk_tickets.proofs.Leaving.{withdraw-refused, withdraw-left}
+use Rattle.desk_tickets.proofs.Leaving.{withdraw_refused, withdraw_left}
 use borrow.Author.Rules.{rules}
 use Rattle.desk_tickets.proofs.withdraw_in.Statement.{statement}
 use Rattle.desk_tickets.proofs.withdraw_in.Tie as tie
@@ -21,7 +21,7 @@ returns : tie.Need-returns
 returns c =
     let j = c.before.before.before in
     let a = j.before.args in
-    withdraw-refused a.len a.row a.withdrawal j.judge-withdrawal.result j.judge-withdrawal.ensures (sym c.before.refused.ensures ∙ c.if1.true)
+    withdraw_refused a.len a.row a.withdrawal j.judge-withdrawal.result j.judge-withdrawal.ensures (sym c.before.refused.ensures ∙ c.if1.true)
 
 index-of-requires : tie.Need-index-of-requires
 index-of-requires c κs = search rules
@@ -39,7 +39,7 @@ returns-2 c =
     let e = i.before in
     let j = e.before.before.before in
     let a = j.before.args in
-    withdraw-left a.len a.row a.withdrawal j.judge-withdrawal.result j.judge-withdrawal.ensures (long j.before) (sym e.before.refused.ensures ∙ e.if1.false)
+    withdraw_left a.len a.row a.withdrawal j.judge-withdrawal.result j.judge-withdrawal.ensures (long j.before) (sym e.before.refused.ensures ∙ e.if1.false)
     i.index_of.result f.first-place.result c.close_up.result i.index_of.ensures f.first-place.ensures c.close_up.ensures
 
 pub withdraw-in-spec : {M : Type 1} → statement M

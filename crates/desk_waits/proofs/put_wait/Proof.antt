@@ -1,7 +1,7 @@
 -- `desk_waits::put_wait` meets its contract: the key and six numbers, one behind the other.
 -- Assumes nothing.
 use native.Mathlib.Omega.{arith}
-use Rattle.text_pages.proofs.Pages.{wrote_on, wrote-within}
+use Rattle.text_pages.proofs.Pages.{wrote_on, wrote_within}
 use borrow.Author.Rules.{rules}
 use Rattle.desk_waits.proofs.put_wait.Statement.{statement}
 use Rattle.desk_waits.proofs.put_wait.Tie as tie
@@ -48,7 +48,7 @@ returns c =
     let two = wrote_on one (omega arith) pp.put-pair.ensures in
     let three = wrote_on two (omega arith) p2.put2.ensures in
     let four = wrote_on three (omega arith) pn.put-number.ensures in
-    wrote-within (wrote_on four (omega arith) ptl.put-triple-line.ensures) _ (omega arith)
+    wrote_within (wrote_on four (omega arith) ptl.put-triple-line.ensures) _ (omega arith)
 
 pub put-wait-spec : {M : Type 1} → statement M
 put-wait-spec =

@@ -3,8 +3,8 @@
 use mathlib.Core.Path.{◌≡◌}
 use native.Mathlib.Omega.{arith}
 use lib.ListN.{length}
-use Rattle.text_pages.proofs.Pages.{wrote-long}
-use Rattle.desk_waits.proofs.Lines.{text-wrote}
+use Rattle.text_pages.proofs.Pages.{wrote_long}
+use Rattle.desk_waits.proofs.Lines.{text_wrote}
 use borrow.Author.Rules.{rules}
 use Rattle.desk_waits.proofs.put_waiting.Statement.{statement}
 use Rattle.desk_waits.proofs.put_waiting.Tie as tie
@@ -31,7 +31,7 @@ put-waits-requires-2 c κs =
     let s = at-start p in
     let w = s.pre.0 in
     let v = p.put-waits.ensures in
-    (omega (arith, w.less), (w.less, omega (arith, w.few, w.less, s.pre.1, v.within, wrote-long v (omega (arith, w.few, s.pre.1)))))
+    (omega (arith, w.less), (w.less, omega (arith, w.few, w.less, s.pre.1, v.within, wrote_long v (omega (arith, w.few, s.pre.1)))))
 
 slice-aggregate-put-pair-line : tie.Need-slice-aggregate-put-pair-line
 slice-aggregate-put-pair-line c = search rules
@@ -48,7 +48,7 @@ returns c =
     let q = l.before.before.before.before.before in
     let p = at_ones q in
     let s = at-start p in
-    text-wrote s.args.row (long s) s.args.ones s.args.twos s.pre.0 _ _ _ _ _ _ _ s.pre.1 p.put-waits.ensures q.put-waits2.ensures l.put-pair-line.ensures
+    text_wrote s.args.row (long s) s.args.ones s.args.twos s.pre.0 _ _ _ _ _ _ _ s.pre.1 p.put-waits.ensures q.put-waits2.ensures l.put-pair-line.ensures
 
 pub put-waiting-spec : {M : Type 1} → statement M
 put-waiting-spec =

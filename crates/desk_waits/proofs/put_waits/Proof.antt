@@ -4,9 +4,9 @@ use Prim.Native.Nat.{◌-◌}
 use mathlib.Core.Path.{◌≡◌}
 use native.Mathlib.Omega.{arith}
 use lib.ListN.{length, take, drop}
-use Rattle.text_pages.proofs.Pages.{LinesPut, lines_put_none, line-room, line_wrote, lines-put}
+use Rattle.text_pages.proofs.Pages.{LinesPut, lines_put_none, line_room, line_wrote, lines_put}
 use Rattle.desk_waits.specs.Waits.{waits_lines}
-use Rattle.desk_waits.proofs.Lines.{waits-left, waits-over}
+use Rattle.desk_waits.proofs.Lines.{waits_left, waits_over}
 use borrow.Author.Rules.{rules}
 use Rattle.desk_waits.proofs.put_waits.Statement.{statement}
 use Rattle.desk_waits.proofs.put_waits.Tie as tie
@@ -36,7 +36,7 @@ put-wait-requires : tie.Need-put-wait-requires invariant-loop decreases-loop
 put-wait-requires c κs =
     let al = c.before.before.before in
     let s = al.before.before in
-    (line-room _ _ _ _ _ s.requires.1.1 _ _ _ _ al.loop.invariant c.before.before.loop-test.true, omega (arith, s.requires.1.0, c.before.before.loop-test.true))
+    (line_room _ _ _ _ _ s.requires.1.1 _ _ _ _ al.loop.invariant c.before.before.loop-test.true, omega (arith, s.requires.1.0, c.before.before.loop-test.true))
 
 add-i : tie.Need-overflow-add-i invariant-loop decreases-loop
 add-i c = search rules
@@ -50,7 +50,7 @@ loop-again c =
     let il = pc.before.before.before in
     let s = il.before.before.before in
     line_wrote _ _ _ _ _ s.requires.1.1 _ _ _ _ il.before.loop.invariant il.loop-test.true _ _
-    (waits-left s.args.t3 (long s) s.args.first s.args.n s.requires.0 il.before.loop.i il.loop-test.true) _ (omega arith) _ _
+    (waits_left s.args.t3 (long s) s.args.first s.args.n s.requires.0 il.before.loop.i il.loop-test.true) _ (omega arith) _ _
     pc.put-wait.ensures
 
 same_length : tie.Need-same-length invariant-loop decreases-loop
@@ -58,8 +58,8 @@ same_length c = c.before.loop.invariant.long
 
 returns : tie.Need-returns invariant-loop decreases-loop
 returns c =
-    let s = c.before.before.before in lines-put _ _ _ _ _ s.requires.1.1 _ _ _ _ c.before.loop.invariant c.loop-test.false
-    (waits-over s.args.t3 (long s) s.args.first s.args.n s.requires.0 c.before.loop.i c.loop-test.false)
+    let s = c.before.before.before in lines_put _ _ _ _ _ s.requires.1.1 _ _ _ _ c.before.loop.invariant c.loop-test.false
+    (waits_over s.args.t3 (long s) s.args.first s.args.n s.requires.0 c.before.loop.i c.loop-test.false)
 
 pub put-waits-spec : {M : Type 1} → statement M
 put-waits-spec =

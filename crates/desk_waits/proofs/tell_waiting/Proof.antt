@@ -2,7 +2,7 @@
 -- Assumes nothing.
 use mathlib.Core.Path.{◌≡◌}
 use lib.ListN.{length}
-use Rattle.desk_waits.proofs.Told.{not-told, told, waiters-so}
+use Rattle.desk_waits.proofs.Told.{not_told, told, waiters_so}
 use borrow.Author.Rules.{rules}
 use Rattle.desk_waits.proofs.tell_waiting.Statement.{statement}
 use Rattle.desk_waits.proofs.tell_waiting.Tie as tie
@@ -29,7 +29,7 @@ returns c =
     let f = t.before in
     let j = f.before in
     let a = (at-start j).args in
-    not-told a.len a.row a.out.now _ j.judge-row.ensures _ f.refused.ensures t.if1.true _ c.answer-to.ensures
+    not_told a.len a.row a.out.now _ j.judge-row.ensures _ f.refused.ensures t.if1.true _ c.answer-to.ensures
 
 count-waiting-requires : tie.Need-count-waiting-requires
 count-waiting-requires c κs = search rules
@@ -45,7 +45,7 @@ say-waiting-requires c κs =
     let f = e.before in
     let j = f.before in
     let s = at-start j in
-    waiters-so s.args.len s.args.row s.args.out.now _ j.judge-row.ensures _ f.refused.ensures (long s) e.if1.false _ _ n₁.count-waiting.ensures n₂.count-waiting2.ensures
+    waiters_so s.args.len s.args.row s.args.out.now _ j.judge-row.ensures _ f.refused.ensures (long s) e.if1.false _ _ n₁.count-waiting.ensures n₂.count-waiting2.ensures
 
 same_length : tie.Need-same-length
 same_length c = search rules

@@ -13,10 +13,10 @@ use Rattle.engine_stops.specs.Joining.{JoinRows, join_rows}
 use Rattle.least.specs.Recurrence.{least_list}
 use Rattle.engine_plain.specs.Plain.{PlainRows, plain_rows}
 use Rattle.engine_plain.specs.Private.{ListWritten}
-use Rattle.engine_plain.proofs.Checks.{run_checks, run-passed}
+use Rattle.engine_plain.proofs.Checks.{run_checks, run_passed}
 use Rattle.engine_stops.proofs.Held.{Front}
-use Rattle.engine_plain.proofs.Held.{join-verdict, join-stops, join_front, front-rows, front_long, front-written, list-short}
-use Rattle.engine_plain.proofs.Planned.{LongRows, long_rows, run_refused, checks-pass, rows-refused, run-planned, in_froms, in_tos, planned-so}
+use Rattle.engine_plain.proofs.Held.{join_verdict_lem, join_stops, join_front, front_rows, front_long, front_written, list_short}
+use Rattle.engine_plain.proofs.Planned.{LongRows, long_rows, run_refused, checks_pass, rows_refused_lem, run_planned, in_froms, in_tos, planned_so}
 use borrow.Author.Rules.{rules}
 use Rattle.engine_plain.proofs.plan.Statement.{statement}
 use Rattle.engine_plain.proofs.plan.Tie as tie
@@ -62,7 +62,7 @@ abbrev joining : tie.After-refused → tie.After-join
 joining f = f.before.before.before.before.before.before.before
 
 judged : (f : tie.After-refused) → f.before.with-24.result ≡ first_of (run_checks (run (joining f)))
-judged f = let j = joining f in join-verdict (run j) j.join.result (after j) j.join.ensures.0 j.join.ensures.1 _ f.before.with-24.ensures
+judged f = let j = joining f in join_verdict_lem (run j) j.join.result (after j) j.join.ensures.0 j.join.ensures.1 _ f.before.with-24.ensures
 
 returns : tie.Need-returns
 returns c =
@@ -75,10 +75,10 @@ abbrev joined : tie.Else1 → tie.After-join
 joined e = joining e.before
 
 passes : (e : tie.Else1) → refuses (first_of (run_checks (run (joined e)))) ≡ false
-passes e = checks-pass (run (joined e)) (rows (joined e)) _ _ (judged e.before) e.before.refused.ensures e.if1.false
+passes e = checks_pass (run (joined e)) (rows (joined e)) _ _ (judged e.before) e.before.refused.ensures e.if1.false
 
 stops-are : (e : tie.Else1) → (joined e).join.result.stops ≡ length (stops_of (run (joined e)))
-stops-are e = let j = joined e in join-stops (run j) j.join.result (after j) j.join.ensures.0 j.join.ensures.1 (passes e)
+stops-are e = let j = joined e in join_stops (run j) j.join.result (after j) j.join.ensures.0 j.join.ensures.1 (passes e)
 
 front : (e : tie.Else1) → Front (joined e).join.result.stops (after (joined e)) (stops_of (run (joined e)))
 front e = let j = joined e in join_front (run j) j.join.result (after j) j.join.ensures.0 j.join.ensures.1 (passes e)
@@ -93,7 +93,7 @@ returns-2 : tie.Need-returns-2
 returns-2 c =
     let e = c.before.before.before in
     let j = joined e in
-    rows-refused (run j) (rows j) _ _ (judged e.before) e.before.refused.ensures e.if1.false _ (stops-are e) _ c.before.before.short-rows.ensures
+    rows_refused_lem (run j) (rows j) _ _ (judged e.before) e.before.refused.ensures e.if1.false _ (stops-are e) _ c.before.before.short-rows.ensures
     c.before.if2.true _ c.refuse2.ensures
 
 -- Where the rows have passed too.
@@ -141,9 +141,9 @@ write-list-requires c κs =
     let d = at-if2 c in
     let e = d.before.before in
     let j = joined e in
-    let accepts = run-passed (run j) (passes e) in
+    let accepts = run_passed (run j) (passes e) in
     let size = front_long (run j) accepts _ (after j) (front e) in
-    (front-rows (run j) accepts _ (after j) (front e), (omega (arith, size, (long-enough d).starts), omega (arith, size, (long-enough d).ends)))
+    (front_rows (run j) accepts _ (after j) (front e), (omega (arith, size, (long-enough d).starts), omega (arith, size, (long-enough d).ends)))
 
 -- The list that was written.
 abbrev second : tie.After-write-list → tie.Else2
@@ -154,14 +154,14 @@ written : (m : tie.After-write-list) → let j = joined (first (second m)) in le
 written m =
     let e = first (second m) in
     let j = joined e in
-    front-written (run j) (run-passed (run j) (passes e)) _ (after j) (front e) _ _ _ _ _ m.write-list.ensures
+    front_written (run j) (run_passed (run j) (passes e)) _ (after j) (front e) _ _ _ _ _ m.write-list.ensures
 
 in_rows : (m : tie.After-write-list) → let l = m.write-list.new.1.1.1.1.1 in (m.write-list.result ≤ length l.0) × (m.write-list.result ≤ length l.1.0)
 in_rows m =
     let e = first (second m) in
     let j = joined e in
-    let accepts = run-passed (run j) (passes e) in
-    let short = list-short (run j) accepts _ (after j) (front e) in (
+    let accepts = run_passed (run j) (passes e) in
+    let short = list_short (run j) accepts _ (after j) (front e) in (
       in_froms (run j) (rows j) accepts (long-enough (second m)) short _ _ _ (written m),
       in_tos (run j) (rows j) accepts (long-enough (second m)) short _ _ _ (written m),
     )
@@ -200,9 +200,9 @@ returns-3 c =
     let d = second m in
     let e = d.before.before in
     let j = joined e in
-    let accepts = run-passed (run j) (passes e) in
-    run-planned (run j) (rows j) _ _ (judged e.before) e.before.refused.ensures e.if1.left _ (stops-are e) _ d.before.short-rows.ensures d.if2.left _ _
-    (planned-so (run j) (rows j) accepts (long-enough d) (list-short (run j) accepts _ (after j) (front e)) _ _ _ (written m) _ _ _ p.price.ensures.0 p.price.ensures.1)
+    let accepts = run_passed (run j) (passes e) in
+    run_planned (run j) (rows j) _ _ (judged e.before) e.before.refused.ensures e.if1.left _ (stops-are e) _ d.before.short-rows.ensures d.if2.left _ _
+    (planned_so (run j) (rows j) accepts (long-enough d) (list_short (run j) accepts _ (after j) (front e)) _ _ _ (written m) _ _ _ p.price.ensures.0 p.price.ensures.1)
 
 pub plan-spec : {M : Type 1} → statement M
 plan-spec =

@@ -7,7 +7,7 @@ use lib.ListN.{length}
 use mir.Syntax.{w64}
 use mir.Val.{Fits}
 use Rattle.runs.specs.Run.{Run, run_of, most_reads}
-use Rattle.engine_stops.proofs.Filling.{GoodRows, good_rows, Filling, filling_none, filling-more, filled-rows, at_some, to_room, reads-small}
+use Rattle.engine_stops.proofs.Filling.{GoodRows, good_rows, Filling, filling_none, filling_more, filled_rows, at_some, to_room, reads_small}
 use borrow.Author.Rules.{rules, scaled_Fits}
 use Rattle.engine_stops.proofs.fill.Statement.{statement}
 use Rattle.engine_stops.proofs.fill.Tie as tie
@@ -158,7 +158,7 @@ add_reads c =
     let n = u.before.before.before in
     let s = begin n.before.before in
     reads-few _ _
-    (reads-small _ _ _ _ _ (good s).even _ s.pre.0.all _ _ _ _ _ _ _ _ _ _ n.before.before.loop.invariant _ (one_less n.before) _ n.joins-next.ensures _ u.less-unless.ensures _ c.carried.ensures)
+    (reads_small _ _ _ _ _ (good s).even _ s.pre.0.all _ _ _ _ _ _ _ _ _ _ n.before.before.loop.invariant _ (one_less n.before) _ n.joins-next.ensures _ u.less-unless.ensures _ c.carried.ensures)
     (good s).reads
 
 mul-reads-2 : tie.Need-overflow-mul-reads-2 invariant-loop decreases-loop
@@ -178,7 +178,7 @@ loop-again c =
     let u = c.before.before.before in
     let n = u.before.before.before in
     let s = begin n.before.before in
-    filling-more _ _ _ _ _ (good s).even _ s.pre.0.all _ _ _ _ _ _ _ _ _ _ n.before.before.loop.invariant _ (one_less n.before) _ n.joins-next.ensures _
+    filling_more _ _ _ _ _ (good s).even _ s.pre.0.all _ _ _ _ _ _ _ _ _ _ n.before.before.loop.invariant _ (one_less n.before) _ n.joins-next.ensures _
     u.less-unless.ensures _ c.carried.ensures
     s.pre.1.0 s.pre.1.1.0 s.pre.1.1.1.0 s.pre.1.1.1.1 _ u.before.stop-place.ensures
 
@@ -197,7 +197,7 @@ same-length-4 c = c.before.loop.invariant.reads.same
 returns : tie.Need-returns invariant-loop decreases-loop
 returns c =
     let s = begin c.before in
-    let rows = filled-rows _ _ _ _ _ (good s).even _ s.pre.0.all _ _ _ _ _ _ _ _ _ _ c.before.loop.invariant c.loop-test.false in
+    let rows = filled_rows _ _ _ _ _ (good s).even _ s.pre.0.all _ _ _ _ _ _ _ _ _ _ c.before.loop.invariant c.loop-test.false in
     (rows.0, (rows.1, (rows.2, rows.3)))
 
 pub fill_spec : {M : Type 1} → statement M

@@ -8,7 +8,7 @@ use Rattle.runs.specs.Run.{Run, run_of, stops_of}
 use Rattle.runs.specs.Judging.{judge_of}
 use Rattle.engine_stops.specs.Joining.{JoinRows, join_rows}
 use Rattle.engine_stops.proofs.Filling.{GoodRows, good_rows}
-use Rattle.engine_stops.proofs.Answers.{Answered, LongRows, run_refused, run-accepted, rows-refused, rows_accepted, rows_long, four_rows_lem}
+use Rattle.engine_stops.proofs.Answers.{Answered, LongRows, run_refused, run_accepted, rows_refused_lem, rows_accepted, rows_long, four_rows_lem}
 use borrow.Author.Rules.{rules}
 use Rattle.engine_stops.proofs.join.Statement.{statement}
 use Rattle.engine_stops.proofs.join.Tie as tie
@@ -45,7 +45,7 @@ abbrev start : tie.Else1 → tie.Start
 start e = e.before.before.before.before.before.before.before.before.before.before.before.before
 
 passed : (e : tie.Else1) → refuses (judge_of (run (start e))) ≡ false
-passed e = run-accepted (run (start e)) (rows (start e)) _ _ e.before.before.judge.ensures e.before.refused.ensures e.if1.false
+passed e = run_accepted (run (start e)) (rows (start e)) _ _ e.before.before.judge.ensures e.before.refused.ensures e.if1.false
 
 good : (e : tie.Else1) → let r = run (start e) in GoodRows r.starts r.lengths r.aggregates r.numbers r.counts
 good e = good_rows (run (start e)) (passed e)
@@ -71,7 +71,7 @@ returns-2 c =
     let t = c.before.before in
     let n = t.before.before in
     let e = n.before in
-    let so = rows-refused (run (start e)) (rows (start e)) _ _ e.before.before.judge.ensures e.before.refused.ensures
+    let so = rows_refused_lem (run (start e)) (rows (start e)) _ _ e.before.before.judge.ensures e.before.refused.ensures
     _ (all-counted n) _ t.before.short-rows.ensures _ _ t.refuse-if.ensures c.before.refused2.ensures e.if1.false c.if2.true
     in
     (so.says, so.rows)

@@ -6,7 +6,7 @@ use lib.ListN.{get_or}
 use lib.Dec.{eqb}
 use native.Mathlib.Omega.{arith}
 use native.Mathlib.Numerals.{add-one}
-use Rattle.engine_stops.proofs.Joining.{next-none, next-zero, next-number}
+use Rattle.engine_stops.proofs.Joining.{next_none, next_zero, next_number}
 use borrow.Author.Rules.{rules}
 use Rattle.engine_stops.proofs.joins_next.Statement.{statement}
 use Rattle.engine_stops.proofs.joins_next.Tie as tie
@@ -15,7 +15,7 @@ add-if1 : tie.Need-overflow-add-if1
 add-if1 c = search rules
 
 returns : tie.Need-returns
-returns c = next-none _ _ c.before.requires.0 _ c.if1.true
+returns c = next_none _ _ c.before.requires.0 _ c.if1.true
 
 mul-number : tie.Need-overflow-mul-number
 mul-number c = search rules
@@ -35,7 +35,7 @@ shared-slice-read-number-2 c = let s = c.before.before.before in omega (arith, s
 returns-2 : tie.Need-returns-2
 returns-2 c =
     let s = c.before.before.before.before in
-    next-zero _ _ s.requires.0 _ (omega (arith, c.before.before.before.if1.false)) c.if2.true
+    next_zero _ _ s.requires.0 _ (omega (arith, c.before.before.before.if1.false)) c.if2.true
 
 add-result : tie.Need-overflow-add-result
 add-result c = search rules
@@ -74,7 +74,7 @@ returns-3 c =
     let s = c.before.before.before.before.before.before in
     let a = s.args in
     ap (λ n. eqb (get_or a.aggregates.now (get_or a.numbers.now n 0 - 1) 0) (get_or a.aggregates.now (get_or a.numbers.now a.i 0 - 1) 0)) (add-one a.i)
-    ∙ next-number _ _ s.requires.0 _ (omega (arith, c.before.before.before.before.before.if1.false)) c.before.before.if2.false
+    ∙ next_number _ _ s.requires.0 _ (omega (arith, c.before.before.before.before.before.if1.false)) c.before.before.if2.false
 
 pub joins-next-spec : {M : Type 1} → statement M
 joins-next-spec =

@@ -4,7 +4,7 @@ use mathlib.Core.Path.{ap, ◌∙◌}
 use Rattle.runs.specs.Run.{Run, run_of}
 use Rattle.refusals.proofs.Verdicts.{test_says}
 use Rattle.walk.specs.Price.{refusal_answer}
-use Rattle.figures.proofs.AnyHead.{run_refused, figures-same}
+use Rattle.figures.proofs.AnyHead.{run_refused, figures_same}
 use borrow.Author.Rules.{rules}
 use Rattle.figures.proofs.figures.Statement.{statement}
 use Rattle.figures.proofs.figures.Tie as tie
@@ -45,7 +45,7 @@ returns-2 c =
     let e = w.before.before in
     let j = e.before.before in
     let s = at-start j in
-    let so = figures-same (run s) s.args.froms.now s.args.tos.now s.args.row.now (test_says j.judge.ensures e.before.refused.ensures e.if1.false) in
+    let so = figures_same (run s) s.args.froms.now s.args.tos.now s.args.row.now (test_says j.judge.ensures e.before.refused.ensures e.if1.false) in
     (w.figures-any.ensures.0 ∙ so.0, w.figures-any.ensures.1 ∙ so.1)
 
 pub figures-spec : {M : Type 1} → statement M

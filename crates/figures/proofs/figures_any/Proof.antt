@@ -11,7 +11,7 @@ use Rattle.walk.specs.declared.Answer.{Answer}
 use Rattle.walk.specs.AnyHead.{price_any_answer, priced_any_answer}
 use Rattle.walk.specs.Rows.{ReadRows, read_rows}
 use Rattle.figures.specs.Private.{PriceableAny}
-use Rattle.figures.proofs.AnyHead.{Long, priced, refused_so, passed_so, short-so, figured-so}
+use Rattle.figures.proofs.AnyHead.{Long, priced, refused_so, passed_so, short_so, figured_so}
 use borrow.Author.Rules.{rules}
 use Rattle.figures.proofs.figures_any.Statement.{statement}
 use Rattle.figures.proofs.figures_any.Tie as tie
@@ -79,7 +79,7 @@ returns-2 : tie.Need-returns-2
 returns-2 c =
     let e = c.before.before in
     let s = start (pricing e.before) in
-    let so = short-so (run s) s.args.froms.now s.args.tos.now s.args.row.now (passed e) c.before.if2.true in
+    let so = short_so (run s) s.args.froms.now s.args.tos.now s.args.row.now (passed e) c.before.if2.true in
     (c.refuse.ensures ∙ so.0, so.1)
 
 fill-figures-requires : tie.Need-fill-figures-requires
@@ -93,7 +93,7 @@ returns-3 c =
     let d = c.before.before.before in
     let e = d.before in
     let s = start (pricing e.before) in
-    let so = figured-so (run s) s.args.froms.now s.args.tos.now s.args.row.now (passed e) d.if2.false _ c.before.fill-figures.ensures in
+    let so = figured_so (run s) s.args.froms.now s.args.tos.now s.args.row.now (passed e) d.if2.false _ c.before.fill-figures.ensures in
     (is-price e ∙ so.0, so.1)
 
 pub figures-any-spec : {M : Type 1} → statement M

@@ -10,7 +10,7 @@ use Rattle.runs.specs.Run.{Run, run_of}
 use Rattle.runs.specs.Lists.{list_of}
 use Rattle.runs.proofs.Entries.{length_list}
 use Rattle.figures.specs.AnyHead.{figures_any_of}
-use Rattle.figures.proofs.Filling.{Filling, filling_start, filling-more, filling-all}
+use Rattle.figures.proofs.Filling.{Filling, filling_start, filling_more, filling_all}
 use Rattle.figures.proofs.Differences.{stored_is}
 use Rattle.figures.proofs.AnyHead.{even, sum_small, sum_without_small, figure_is, figures_length, figure_at}
 use borrow.Author.Rules.{rules}
@@ -74,7 +74,7 @@ loop-again c =
     let s = start l in
     let list = list_of s.args.froms.now s.args.tos.now in
     let within = length_list s.args.froms.now s.args.tos.now (even (run s) s.args.froms.now s.args.tos.now s.pre.0) in
-    filling-more (pos 0) _ _ _ _ l.loop.invariant (omega (arith, size s, c.before.before.loop-test.true)) _
+    filling_more (pos 0) _ _ _ _ l.loop.invariant (omega (arith, size s, c.before.before.loop-test.true)) _
     (stored_is _ _ (left-small c.before) (whole-small s) _ c.less.ensures ∙ figure_is (run s) list _ _ _ c.before.sum-without.ensures s.pre.1.0 ∙ figure_at (run s) list _ (omega (arith, within, c.before.before.loop-test.true)))
 
 same_length : tie.Need-same-length invariant-loop decreases-loop
@@ -84,7 +84,7 @@ returns : tie.Need-returns invariant-loop decreases-loop
 returns c =
     let l = c.before in
     let s = start l in
-    filling-all (pos 0) _ _ _ _ l.loop.invariant (omega (arith, size s, c.loop-test.false)) ∙ ap (λ n. figures_any_of (run s) (list_of s.args.froms.now s.args.tos.now) ++ drop n s.args.row.now) (size s)
+    filling_all (pos 0) _ _ _ _ l.loop.invariant (omega (arith, size s, c.loop-test.false)) ∙ ap (λ n. figures_any_of (run s) (list_of s.args.froms.now s.args.tos.now) ++ drop n s.args.row.now) (size s)
 
 pub fill-figures-spec : {M : Type 1} → statement M
 fill-figures-spec =

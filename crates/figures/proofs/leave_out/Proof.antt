@@ -6,8 +6,8 @@ use mathlib.Core.List.{◌++◌}
 use native.Mathlib.Omega.{arith}
 use lib.ListN.{length, drop}
 use Rattle.figures.specs.Figures.{without}
-use Rattle.figures.proofs.Without.{without-length}
-use Rattle.figures.proofs.Filling.{Filling, filling_start, filling-more, filling-all}
+use Rattle.figures.proofs.Without.{without_length}
+use Rattle.figures.proofs.Filling.{Filling, filling_start, filling_more, filling_all}
 use borrow.Author.Rules.{rules}
 use Rattle.figures.proofs.leave_out.Statement.{statement}
 use Rattle.figures.proofs.leave_out.Tie as tie
@@ -19,7 +19,7 @@ abbrev decreases-loop : tie.decreases-loop
 decreases-loop row i out₀ last j₀ out j = last - j
 
 shorter : (s : tie.Start invariant-loop decreases-loop) → suc (length (without s.args.i s.args.row.now)) ≡ length s.args.row.now
-shorter s = without-length s.args.i s.args.row.now s.requires.0
+shorter s = without_length s.args.i s.args.row.now s.requires.0
 
 sub-last : tie.Need-overflow-sub-last invariant-loop decreases-loop
 sub-last c = search rules
@@ -43,7 +43,7 @@ loop-less : tie.Need-loop-smaller invariant-loop decreases-loop
 loop-less c = search rules
 
 loop-again : tie.Need-loop-preserved invariant-loop decreases-loop
-loop-again c = filling-more 0 _ _ _ _ c.before.before.loop.invariant (omega (arith, c.before.loop-test.true, shorter c.before.before.before.before.before)) _ c.entry-without.ensures
+loop-again c = filling_more 0 _ _ _ _ c.before.before.loop.invariant (omega (arith, c.before.loop-test.true, shorter c.before.before.before.before.before)) _ c.entry-without.ensures
 
 same_length : tie.Need-same-length invariant-loop decreases-loop
 same_length c = c.before.loop.invariant.same
@@ -53,7 +53,7 @@ returns c =
     let s = c.before.before.before.before in
     let w = shorter s in
     let n : length (without s.args.i s.args.row.now) ≡ length s.args.row.now - 1 = omega (arith, w) in
-    filling-all 0 _ _ _ _ c.before.loop.invariant (omega (arith, w, c.loop-test.false)) ∙ ap (λ n. without s.args.i s.args.row.now ++ drop n s.args.out.now) n
+    filling_all 0 _ _ _ _ c.before.loop.invariant (omega (arith, w, c.loop-test.false)) ∙ ap (λ n. without s.args.i s.args.row.now ++ drop n s.args.out.now) n
 
 pub leave-out-spec : {M : Type 1} → statement M
 leave-out-spec =

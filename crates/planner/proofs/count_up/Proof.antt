@@ -6,7 +6,7 @@ use mathlib.Core.List.{append-nil}
 use native.Mathlib.Omega.{arith}
 use lib.ListN.{length, drop_of_length-le}
 use Rattle.engine_stops.proofs.Table.{count_length, count_at_lem}
-use Rattle.planner.proofs.Filling.{Filling, filling_start, filling-more, filling-all}
+use Rattle.planner.proofs.Filling.{Filling, filling_start, filling_more, filling_all}
 use borrow.Author.Rules.{rules}
 use Rattle.planner.proofs.count_up.Statement.{statement}
 use Rattle.planner.proofs.count_up.Tie as tie
@@ -43,7 +43,7 @@ loop-less c = omega (arith, inside c)
 loop-again : tie.Need-loop-preserved invariant-loop decreases-loop
 loop-again c =
     let row₀ = c.before.before.args.row.now in
-    filling-more _ _ _ _ c.before.loop.invariant (omega (arith, inside c, count_length 1 (length row₀))) _
+    filling_more _ _ _ _ c.before.loop.invariant (omega (arith, inside c, count_length 1 (length row₀))) _
     (omega (arith, count_at_lem 1 (length row₀) c.before.loop.i (inside c)))
 
 same_length : tie.Need-same-length invariant-loop decreases-loop
@@ -54,7 +54,7 @@ returns c =
     let row₀ = c.before.before.args.row.now in
     let size = count_length 1 (length row₀) in
     let v = c.before.loop.invariant in
-    filling-all _ _ _ _ v (omega (arith, size, v.same, c.loop-test.false))
+    filling_all _ _ _ _ v (omega (arith, size, v.same, c.loop-test.false))
     ∙ rw (drop_of_length-le row₀ {i = length (count_up 1 (length row₀))} (omega (arith, size))) (append-nil (count_up 1 (length row₀)))
 
 pub count-up-spec : {M : Type 1} → statement M

@@ -9,7 +9,7 @@ use lib.Seq.{length-take-le}
 use Rattle.refusals.proofs.Verdicts.{refuses}
 use Rattle.engine_table.specs.Listing.{ListRows, list_rows}
 use Rattle.engine_stops.proofs.Table.{count_length}
-use Rattle.planner.proofs.Naming.{count_part, stops-fit, named-refused, froms-nameable, tos-nameable, named-listed}
+use Rattle.planner.proofs.Naming.{count_part, stops_fit, named_refused, froms_nameable, tos_nameable, named_listed}
 use Rattle.planner.proofs.list_named.Statement.{statement}
 use Rattle.planner.proofs.list_named.Tie as tie
 use Rattle.engine_stops.specs.Private.{count_up}
@@ -29,7 +29,7 @@ abbrev start : tie.After-count-up → tie.Start
 start n = n.before.before.before.before.before.before.before.before.before
 
 few : (n : tie.After-count-up) → length (start n).args.firsts.now ≤ 64
-few n = stops-fit _ _ _ _ _ _ _ (start n).requires.holds
+few n = stops_fit _ _ _ _ _ _ _ (start n).requires.holds
 
 array-share-prefix-numbers : tie.Need-array-share-prefix-numbers
 array-share-prefix-numbers c = part_in _ _ _ (few c.before) (ap length c.before.count-up.ensures) (count_length 1 64)
@@ -74,7 +74,7 @@ counted f =
 returns : tie.Need-returns
 returns c =
     let f = c.before in
-    λ r h. named-refused r _ _ _ _ _ _ h (before f) (mid f) _ _ (counted f) (engine f).list.ensures (sym f.refused.ensures ∙ c.if1.true)
+    λ r h. named_refused r _ _ _ _ _ _ h (before f) (mid f) _ _ (counted f) (engine f).list.ensures (sym f.refused.ensures ∙ c.if1.true)
 
 -- Where the engine has listed.
 passes : (e : tie.Else1) → refuses (engine e.before).list.result.verdict ≡ false
@@ -84,14 +84,14 @@ name-files-requires : tie.Need-name-files-requires
 name-files-requires c κs =
     let e = c.before in
     let f = e.before in
-    let n = froms-nameable _ _ _ _ _ _ _ (start (numbering f)).requires.holds (before f) (mid f) _ _ (counted f) (engine f).list.ensures (passes e) in
+    let n = froms_nameable _ _ _ _ _ _ _ (start (numbering f)).requires.holds (before f) (mid f) _ _ (counted f) (engine f).list.ensures (passes e) in
     (omega (arith, n.long), λ i b. n.each i (omega (arith, b)))
 
 name-files-requires-2 : tie.Need-name-files-requires-2
 name-files-requires-2 c κs =
     let e = c.before.before.before.before.before in
     let f = e.before in
-    let n = tos-nameable _ _ _ _ _ _ _ (start (numbering f)).requires.holds (before f) (mid f) _ _ (counted f) (engine f).list.ensures (passes e) in
+    let n = tos_nameable _ _ _ _ _ _ _ (start (numbering f)).requires.holds (before f) (mid f) _ _ (counted f) (engine f).list.ensures (passes e) in
     (omega (arith, n.long), λ i b. n.each i (omega (arith, b)))
 
 same-length-4 : tie.Need-same-length-4
@@ -115,7 +115,7 @@ returns-2 c =
     let froms = tos.before.before.before.before in
     let e = froms.before.before in
     let f = e.before in
-    λ r h. named-listed r _ _ _ _ _ _ h (before f) (mid f) _ _ (counted f) (engine f).list.ensures (passes e) _ _ froms.name-files.ensures tos.name-files2.ensures
+    λ r h. named_listed r _ _ _ _ _ _ h (before f) (mid f) _ _ (counted f) (engine f).list.ensures (passes e) _ _ froms.name-files.ensures tos.name-files2.ensures
 
 pub list-named-spec : {M : Type 1} → statement M
 list-named-spec =

@@ -7,7 +7,7 @@ use native.Mathlib.Omega.{arith}
 use lib.ListN.{length, get_or, take, length-map}
 use lib.Seq.{length-take-le, get_or-take}
 use Rattle.planner.specs.Private.{first_file_in}
-use Rattle.planner.proofs.Filling.{Filling, filling_start, filling-next, filling-more, filling-all, map_at}
+use Rattle.planner.proofs.Filling.{Filling, filling_start, filling_next, filling_more, filling_all, map_at}
 use borrow.Author.Rules.{rules}
 use Rattle.planner.proofs.name_files.Statement.{statement}
 use Rattle.planner.proofs.name_files.Tie as tie
@@ -36,7 +36,7 @@ inside : (l : tie.In-loop invariant-loop decreases-loop) → l.before.loop.i < l
 inside l = omega (arith, l.loop-test.true, l.before.before.requires.0)
 
 at-hand : (l : tie.In-loop invariant-loop decreases-loop) → get_or l.before.loop.row l.before.loop.i 0 ≡ get_or l.before.before.args.row.now l.before.loop.i 0
-at-hand l = filling-next _ _ _ _ l.before.loop.invariant (inside l)
+at-hand l = filling_next _ _ _ _ l.before.loop.invariant (inside l)
 
 named : (l : tie.In-loop invariant-loop decreases-loop)
     → (0 < get_or l.before.loop.row l.before.loop.i 0) × (get_or l.before.loop.row l.before.loop.i 0 ≤ length l.before.before.args.firsts.now)
@@ -72,7 +72,7 @@ loop-again c =
     let s = l.before.before in
     let i = l.before.loop.i in
     let row₀ = s.args.row.now in
-    filling-more _ _ _ _ l.before.loop.invariant (omega (arith, size s, l.loop-test.true)) _
+    filling_more _ _ _ _ l.before.loop.invariant (omega (arith, size s, l.loop-test.true)) _
     (sym (map_at (first_file_in s.args.firsts.now) (take s.args.entries row₀) i (omega (arith, size s, l.loop-test.true, length-take-le s.args.entries row₀ s.requires.0))
     ∙ ap (first_file_in s.args.firsts.now) (get_or-take s.args.entries row₀ i 0 l.loop-test.true ∙ sym (at-hand l))))
 
@@ -83,7 +83,7 @@ returns : tie.Need-returns invariant-loop decreases-loop
 returns c =
     let s = c.before.before in
     let v = c.before.loop.invariant in
-    filling-all _ _ _ _ v (omega (arith, size s, c.loop-test.false)) ∙ rw (size s) refl
+    filling_all _ _ _ _ v (omega (arith, size s, c.loop-test.false)) ∙ rw (size s) refl
 
 pub name-files-spec : {M : Type 1} → statement M
 name-files-spec =

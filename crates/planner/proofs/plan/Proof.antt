@@ -4,7 +4,7 @@ use borrow.Author.Rules.{rules}
 use Rattle.refusals.proofs.Verdicts.{test_says}
 use Rattle.runs.specs.Run.{Run, run_of}
 use Rattle.planner.specs.Rows.{Rows, rows_of}
-use Rattle.planner.proofs.Same.{run_refused, plan-same}
+use Rattle.planner.proofs.Same.{run_refused, plan_same}
 use Rattle.planner.proofs.plan.Statement.{statement}
 use Rattle.planner.proofs.plan.Tie as tie
 
@@ -58,7 +58,7 @@ returns-2 c =
     let p = at-plan c in
     let e = p.before.before.before.before.before.before in
     let j = e.before.before in
-    plan-same (run (start j)) (rows (start j)) (test_says j.judge.ensures e.before.refused.ensures e.if1.left) _ _ p.plan-any.ensures
+    plan_same (run (start j)) (rows (start j)) (test_says j.judge.ensures e.before.refused.ensures e.if1.left) _ _ p.plan-any.ensures
 
 pub plan-spec : {M : Type 1} → statement M
 plan-spec =

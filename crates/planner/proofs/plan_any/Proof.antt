@@ -14,9 +14,9 @@ use Rattle.engine_table.specs.Listing.{ListRows, list_rows}
 use Rattle.planner.specs.Rows.{Rows, rows_of}
 use Rattle.planner.specs.Private.{RunInRows, ListsNamed, IsNamed}
 use Rattle.engine_stops.proofs.Held.{fresh_rows, Front}
-use Rattle.planner.proofs.Joined.{join-verdict, join_front, join-holds}
-use Rattle.planner.proofs.Refusals.{engine_rows, run_refused, run-accepted, reads_long, reads-refused, engine-refused, engine-listed, run-planned}
-use Rattle.planner.proofs.Priced.{in_froms, in_tos, planned-so}
+use Rattle.planner.proofs.Joined.{join_verdict_lem, join_front, join_holds}
+use Rattle.planner.proofs.Refusals.{engine_rows, run_refused, run_accepted, reads_long, reads_refused, engine_refused, engine_listed, run_planned}
+use Rattle.planner.proofs.Priced.{in_froms, in_tos, planned_so}
 use borrow.Author.Rules.{rules}
 use Rattle.planner.proofs.plan_any.Statement.{statement}
 use Rattle.planner.proofs.plan_any.Tie as tie
@@ -72,7 +72,7 @@ fills : (j : tie.After-join) → after j ≡ join_rows_of (lifted (run j)) (fres
 fills j = rw (lifting j).lift-head.ensures at j.join.ensures.1
 
 judged : (j : tie.After-join) → j.join.result.verdict ≡ judge_any_of (run j)
-judged j = join-verdict (run j) j.join.result (after j) (answers j) (fills j)
+judged j = join_verdict_lem (run j) j.join.result (after j) (answers j) (fills j)
 
 abbrev joining : tie.After-refused → tie.After-join
 joining f = f.before.before.before.before.before.before
@@ -88,7 +88,7 @@ abbrev joined : tie.Else1 → tie.After-join
 joined e = joining e.before
 
 passed : (e : tie.Else1) → refuses (judge_any_of (run (joined e))) ≡ false
-passed e = let j = joined e in run-accepted (run j) (rows j) _ _ (judged j) e.before.refused.ensures e.if1.false
+passed e = let j = joined e in run_accepted (run j) (rows j) _ _ (judged j) e.before.refused.ensures e.if1.false
 
 short-rows-requires : tie.Need-short-rows-requires
 short-rows-requires c κs = search rules
@@ -101,7 +101,7 @@ returns-2 c =
     let s = c.before.before in
     let e = s.before in
     let j = joined e in
-    reads-refused (run j) (rows j) _ _ (judged j) e.before.refused.ensures e.if1.false _ s.short-rows.ensures c.before.if2.true _ c.refuse2.ensures
+    reads_refused (run j) (rows j) _ _ (judged j) e.before.refused.ensures e.if1.false _ s.short-rows.ensures c.before.if2.true _ c.refuse2.ensures
 
 -- Where the rows for times and legs have passed too: the four rows hold the run's stops.
 abbrev first : tie.Else2 → tie.Else1
@@ -114,7 +114,7 @@ long : (d : tie.Else2) → Front (joined (first d)).join.result.stops (after (jo
 long d = let j = joined (first d) in join_front (run j) j.join.result (after j) (answers j) (fills j) (passed (first d))
 
 holds : (d : tie.Else2) → let j = joined (first d) in let k = j.join.result.stops in RunInRows (run j) (take k (after j).firsts) (take k (after j).lefts) (take k (after j).spans) (take k (after j).reads) (run j).head (run j).turn
-holds d = let j = joined (first d) in join-holds (run j) j.join.result (after j) (answers j) (fills j) (passed (first d))
+holds d = let j = joined (first d) in join_holds (run j) j.join.result (after j) (answers j) (fills j) (passed (first d))
 
 array-share-prefix-firsts : tie.Need-array-share-prefix-firsts
 array-share-prefix-firsts c = (long c).firsts.0
@@ -182,7 +182,7 @@ returns-3 c =
     let d = third (listing g) in
     let e = first d in
     let j = joined e in
-    engine-refused (run j) (rows j) _ _ (judged j) e.before.refused.ensures e.if1.left (wide d).0 (wide d).1
+    engine_refused (run j) (rows j) _ _ (judged j) e.before.refused.ensures e.if1.left (wide d).0 (wide d).1
     _ _ (named (listing g)) _ g.refused2.ensures c.before.if3.true _ c.refuse3.ensures _ _ _ refl
 
 is-named : (x : tie.Else3) → let m = listing x.before in let j = joined (first (third m)) in IsNamed (run j) (engine_rows (rows j)) m.list-named.result (listed m)
@@ -191,7 +191,7 @@ is-named x =
     let d = third m in
     let e = first d in
     let j = joined e in
-    engine-listed (run j) (rows j) _ _ (judged j) e.before.refused.ensures e.if1.left (wide d).0 (wide d).1
+    engine_listed (run j) (rows j) _ _ (judged j) e.before.refused.ensures e.if1.left (wide d).0 (wide d).1
     _ _ (named m) _ x.before.refused2.ensures x.if3.false
 
 -- Both rows hold so many entries.
@@ -243,8 +243,8 @@ returns-4 c =
     let d = third m in
     let e = first d in
     let j = joined e in
-    run-planned (run j) (rows j) _ _ (judged j) e.before.refused.ensures e.if1.left (wide d).0 (wide d).1 _ _ (named m) _ x.before.refused2.ensures x.if3.left _ _
-    (planned-so (run j) (rows j) (passed e) (wide d).0 (wide d).1 m.list-named.result _ _ _ (is-named x) _ _ _ p.price-any.ensures.0 p.price-any.ensures.1)
+    run_planned (run j) (rows j) _ _ (judged j) e.before.refused.ensures e.if1.left (wide d).0 (wide d).1 _ _ (named m) _ x.before.refused2.ensures x.if3.left _ _
+    (planned_so (run j) (rows j) (passed e) (wide d).0 (wide d).1 m.list-named.result _ _ _ (is-named x) _ _ _ p.price-any.ensures.0 p.price-any.ensures.1)
 
 pub plan-any-spec : {M : Type 1} → statement M
 plan-any-spec =

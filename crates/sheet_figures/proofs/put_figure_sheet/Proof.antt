@@ -3,7 +3,7 @@
 use mathlib.Core.Path.{◌∙◌}
 use native.Mathlib.Omega.{arith}
 use Rattle.sheet_figures.specs.FigureSheet.{figure_page}
-use Rattle.text_pages.proofs.Pages.{wrote-both, wrote-long, wrote_on, wrote-within}
+use Rattle.text_pages.proofs.Pages.{wrote_both, wrote_long, wrote_on, wrote_within}
 use borrow.Author.Rules.{rules}
 use Rattle.sheet_figures.proofs.put_figure_sheet.Statement.{statement}
 use Rattle.sheet_figures.proofs.put_figure_sheet.Tie as tie
@@ -33,7 +33,7 @@ put-figures-requires c κs =
     let name = sum.before.before.before.before.before in
     let z = name.before.before.before.before.before.before.before.requires in
     let w = wrote_on (wrote_on (name.put-line.ensures.room (omega arith)) (omega arith) sum.put-number-line.ensures) (omega arith) detours.put-number-line2.ensures in
-    let long = wrote-long w (omega arith) in
+    let long = wrote_long w (omega arith) in
     (z.even, (z.figured, omega (arith, w.within, long)))
 
 same_length : tie.Need-same-length
@@ -56,7 +56,7 @@ returns c =
     let one = name.put-line.ensures.room (omega arith) in
     let two = wrote_on one (omega arith) sum.put-number-line.ensures in
     let three = wrote_on two (omega arith) detours.put-number-line2.ensures in
-    wrote-within (wrote-both three lines.put-figures.ensures) _ (omega arith)
+    wrote_within (wrote_both three lines.put-figures.ensures) _ (omega arith)
 
 pub put-figure-sheet-spec : {M : Type 1} → statement M
 put-figure-sheet-spec =

@@ -5,8 +5,8 @@ use Prim.Native.Nat.{◌-◌}
 use native.Mathlib.Omega.{arith}
 use lib.ListN.{length, drop}
 use Rattle.sheet_figures.specs.FigureSheet.{figure_lines}
-use Rattle.text_pages.proofs.Pages.{LinesPut, lines_put_none, line-room, line_wrote, lines-put}
-use Rattle.sheet_figures.proofs.Figures.{figures-left, figures-over}
+use Rattle.text_pages.proofs.Pages.{LinesPut, lines_put_none, line_room, line_wrote, lines_put}
+use Rattle.sheet_figures.proofs.Figures.{figures_left, figures_over}
 use Rattle.sheet_figures.proofs.put_figures.Statement.{statement}
 use Rattle.sheet_figures.proofs.put_figures.Tie as tie
 
@@ -41,7 +41,7 @@ put-figure-requires : tie.Need-put-figure-requires invariant-loop decreases-loop
 put-figure-requires c κs =
     let each = c.before.before.before.before in
     let s = each.before.before.before.before.before in
-    line-room _ _ _ _ _ s.requires.1.1 _ _ _ _ each.before.loop.invariant each.loop-test.true
+    line_room _ _ _ _ _ s.requires.1.1 _ _ _ _ each.before.loop.invariant each.loop-test.true
 
 add-i : tie.Need-overflow-add-i invariant-loop decreases-loop
 add-i c = search rules
@@ -55,7 +55,7 @@ loop-again c =
     let each = put.before.before.before.before.before in
     let s = each.before.before.before.before.before in
     line_wrote _ _ _ _ _ s.requires.1.1 _ _ _ _ each.before.loop.invariant each.loop-test.true _ _
-    (figures-left _ _ _ s.requires.0 s.requires.1.0 _ each.loop-test.true (record { sfits = put.before.put-figure-arg2.given })) _ (omega arith) _ _ put.put-figure.ensures
+    (figures_left _ _ _ s.requires.0 s.requires.1.0 _ each.loop-test.true (record { sfits = put.before.put-figure-arg2.given })) _ (omega arith) _ _ put.put-figure.ensures
 
 same_length : tie.Need-same-length invariant-loop decreases-loop
 same_length c = c.before.loop.invariant.long
@@ -63,7 +63,7 @@ same_length c = c.before.loop.invariant.long
 returns : tie.Need-returns invariant-loop decreases-loop
 returns c =
     let s = c.before.before.before.before.before in
-    lines-put _ _ _ _ _ s.requires.1.1 _ _ _ _ c.before.loop.invariant c.loop-test.false (figures-over _ _ _ s.requires.0 s.requires.1.0 _ c.loop-test.false)
+    lines_put _ _ _ _ _ s.requires.1.1 _ _ _ _ c.before.loop.invariant c.loop-test.false (figures_over _ _ _ s.requires.0 s.requires.1.0 _ c.loop-test.false)
 
 pub put-figures-spec : {M : Type 1} → statement M
 put-figures-spec =

@@ -9,7 +9,7 @@ use Rattle.runs.specs.Run.{Run, run_of}
 use Rattle.sheet_writer.specs.Writing.{row_verdict}
 use Rattle.sheet_figures.specs.AnyHead.{figure_any_text, figure_any_sheet_verdict}
 use Rattle.sheet_writer.proofs.Sheets.{refused_handed, part_length, page_handed}
-use Rattle.sheet_figures.proofs.Figures.{figures-refused, figures-list-refused, few-figures, figures-last, figures-count, figures-fit, figures-wrote}
+use Rattle.sheet_figures.proofs.Figures.{figures_refused, figures_list_refused, few_figures, figures_last, figures_count, figures_fit, figures_wrote}
 use borrow.Author.Rules.{rules}
 use Rattle.sheet_figures.proofs.write_figures_any.Statement.{statement}
 use Rattle.sheet_figures.proofs.write_figures_any.Tie as tie
@@ -39,7 +39,7 @@ returns c =
     let name = asked.before in
     let s = begun name.before in
     refused_handed _ _ _ _ _ _
-    (figures-refused s.args.name.now (run s) s.args.froms.now s.args.tos.now s.args.out.now _ _ name.before.judge-any.ensures name.judge-name.ensures _
+    (figures_refused s.args.name.now (run s) s.args.froms.now s.args.tos.now s.args.out.now _ _ name.before.judge-any.ensures name.judge-name.ensures _
     asked.refused.ensures c.before.if1.true)
     (sym asked.refused.ensures ∙ c.before.if1.true) c.answer-to.ensures
 
@@ -62,7 +62,7 @@ returns-2 c =
     let name = e.before.before in
     let s = begun name.before in
     refused_handed _ _ _ _ _ _
-    (figures-list-refused s.args.name.now (run s) s.args.froms.now s.args.tos.now s.args.out.now _ _ name.before.judge-any.ensures name.judge-name.ensures _
+    (figures_list_refused s.args.name.now (run s) s.args.froms.now s.args.tos.now s.args.out.now _ _ name.before.judge-any.ensures name.judge-name.ensures _
     e.before.refused.ensures e.if1.false (replicate 64 (pos 0)) (omega arith) f.figures-any.result f.figures-any.ensures.0 _ c.before.before.refused2.ensures c.before.if2.true)
     (sym c.before.before.refused2.ensures ∙ c.before.if2.true) c.answer-to2.ensures
 
@@ -80,14 +80,14 @@ module _ (e : tie.Else2) where
   few : length start.args.froms.now ≤ 64
   few =
       let name = passed.before.before in
-      few-figures start.args.name.now (run start) start.args.froms.now start.args.tos.now start.args.out.now _ _ name.before.judge-any.ensures name.judge-name.ensures _
+      few_figures start.args.name.now (run start) start.args.froms.now start.args.tos.now start.args.out.now _ _ name.before.judge-any.ensures name.judge-name.ensures _
       passed.before.refused.ensures passed.if1.left (replicate 64 (pos 0)) (omega arith) told.figures-any.result told.figures-any.ensures.0 _ e.before.refused2.ensures e.if2.left
 
   last : figure_any_sheet_verdict start.args.name.now (run start) start.args.froms.now start.args.tos.now start.args.out.now
       ≡ row_verdict (figure_any_text start.args.name.now (run start) start.args.froms.now start.args.tos.now) start.args.out.now
   last =
       let name = passed.before.before in
-      figures-last start.args.name.now (run start) start.args.froms.now start.args.tos.now start.args.out.now _ _ name.before.judge-any.ensures name.judge-name.ensures _
+      figures_last start.args.name.now (run start) start.args.froms.now start.args.tos.now start.args.out.now _ _ name.before.judge-any.ensures name.judge-name.ensures _
       passed.before.refused.ensures passed.if1.left (replicate 64 (pos 0)) (omega arith) told.figures-any.result told.figures-any.ensures.0 _ e.before.refused2.ensures e.if2.left
 
 slice-aggregate-put-figure-sheet : tie.Need-slice-aggregate-put-figure-sheet
@@ -101,7 +101,7 @@ slice-aggregate-put-figure-sheet-2 c =
     let e = c.before.before in
     let s = start e in
     let name = (passed e).before.before in
-    figures-count s.args.name.now (run s) s.args.froms.now s.args.tos.now s.args.out.now _ _ name.before.judge-any.ensures name.judge-name.ensures _
+    figures_count s.args.name.now (run s) s.args.froms.now s.args.tos.now s.args.out.now _ _ name.before.judge-any.ensures name.judge-name.ensures _
     (passed e).before.refused.ensures (passed e).if1.false (replicate 64 (pos 0)) (omega arith) (told e).figures-any.result (told e).figures-any.ensures.0 _ e.before.refused2.ensures e.if2.false _ (told e).figures-any.ensures.1
 
 put-figure-sheet-requires : tie.Need-put-figure-sheet-requires
@@ -109,7 +109,7 @@ put-figure-sheet-requires c κs =
     let e = c.before.before in
     let s = start e in
     let name = (passed e).before.before in
-    figures-fit s.args.name.now (run s) s.args.froms.now s.args.tos.now s.args.out.now _ _ name.before.judge-any.ensures name.judge-name.ensures _
+    figures_fit s.args.name.now (run s) s.args.froms.now s.args.tos.now s.args.out.now _ _ name.before.judge-any.ensures name.judge-name.ensures _
     (passed e).before.refused.ensures (passed e).if1.false (replicate 64 (pos 0)) (omega arith) (told e).figures-any.result (told e).figures-any.ensures.0 _ e.before.refused2.ensures e.if2.false _ (told e).figures-any.ensures.1 _ (search rules)
 
 array-share-prefix-page : tie.Need-array-share-prefix-page
@@ -130,7 +130,7 @@ returns-3 c =
     let e = sheet.before.before.before in
     let s = start e in
     let name = (passed e).before.before in
-    let wrote = figures-wrote s.args.name.now (run s) s.args.froms.now s.args.tos.now s.args.out.now _ _ name.before.judge-any.ensures name.judge-name.ensures _
+    let wrote = figures_wrote s.args.name.now (run s) s.args.froms.now s.args.tos.now s.args.out.now _ _ name.before.judge-any.ensures name.judge-name.ensures _
     (passed e).before.refused.ensures (passed e).if1.false (replicate 64 (pos 0)) (omega arith) (told e).figures-any.result (told e).figures-any.ensures.0 _ e.before.refused2.ensures e.if2.false _ (told e).figures-any.ensures.1 _ _ _ sheet.put-figure-sheet.ensures in
     page_handed _ _ _ _ _ wrote _ _ (last e) _ _ c.before.before.hand-out.ensures
 

@@ -1,9 +1,9 @@
 -- `sheet_lists::bad_time` meets its contract: the first of the lines that is bad, the one behind them where the text goes on, or none.
 -- Assumes nothing.
 use native.Mathlib.Omega.{arith}
-use Rattle.text_lines.proofs.Passing.{lines-ended, lines-failed}
+use Rattle.text_lines.proofs.Passing.{lines_ended, lines_failed}
 use Rattle.sheet_lists.proofs.Counting.{up_to_is, part_up_to}
-use Rattle.sheet_lists.proofs.Passing.{to-end-bad, to-end-more, to-end-good}
+use Rattle.sheet_lists.proofs.Passing.{to_end_bad, to_end_more, to_end_good}
 use borrow.Author.Rules.{rules}
 use Rattle.sheet_lists.proofs.bad_time.Statement.{statement}
 use Rattle.sheet_lists.proofs.bad_time.Tie as tie
@@ -44,7 +44,7 @@ returns c =
     let tl = c.before.before.before in
     let lut = tl.before.before in
     let s = lut.before.before.before in
-    to-end-bad _ _ _ _ _ (part_up_to _ s.args.plan.now s.args.at _ lut.lines-up-to.ensures) _ (lines-failed _ _ _ _ _ tl.triple-lines.ensures _ c.before.line.given.1)
+    to_end_bad _ _ _ _ _ (part_up_to _ s.args.plan.now s.args.at _ lut.lines-up-to.ensures) _ (lines_failed _ _ _ _ _ tl.triple-lines.ensures _ c.before.line.given.1)
 
 returns-2 : tie.Need-returns-2
 returns-2 c =
@@ -52,7 +52,7 @@ returns-2 c =
     let tl = n.before.before in
     let lut = tl.before.before in
     let s = lut.before.before.before in
-    to-end-more _ _ _ _ _ (part_up_to _ s.args.plan.now s.args.at _ lut.lines-up-to.ensures) _ (lines-ended _ _ _ _ _ tl.triple-lines.ensures _ n.next.given.1) c.if1.true
+    to_end_more _ _ _ _ _ (part_up_to _ s.args.plan.now s.args.at _ lut.lines-up-to.ensures) _ (lines_ended _ _ _ _ _ tl.triple-lines.ensures _ n.next.given.1) c.if1.true
 
 returns-3 : tie.Need-returns-3
 returns-3 c =
@@ -60,7 +60,7 @@ returns-3 c =
     let tl = n.before.before in
     let lut = tl.before.before in
     let s = lut.before.before.before in
-    to-end-good _ _ _ _ _ (part_up_to _ s.args.plan.now s.args.at _ lut.lines-up-to.ensures) _ (lines-ended _ _ _ _ _ tl.triple-lines.ensures _ n.next.given.1) c.if1.false
+    to_end_good _ _ _ _ _ (part_up_to _ s.args.plan.now s.args.at _ lut.lines-up-to.ensures) _ (lines_ended _ _ _ _ _ tl.triple-lines.ensures _ n.next.given.1) c.if1.false
 
 pub bad-time-spec : {M : Type 1} → statement M
 bad-time-spec =

@@ -5,7 +5,7 @@ use mathlib.Core.Logic.{⊎_elim}
 use native.Mathlib.Omega.{arith}
 use lib.ListN.{length}
 use borrow.Author.Rules.{rules}
-use Rattle.sheet_lists.proofs.Counting.{Counted, counted_none, counted-feed, counted-other, counted-all}
+use Rattle.sheet_lists.proofs.Counting.{Counted, counted_none, counted_feed, counted_other, counted_all}
 use Rattle.sheet_lists.proofs.count_lines.Statement.{statement}
 use Rattle.sheet_lists.proofs.count_lines.Tie as tie
 
@@ -33,12 +33,12 @@ loop-less c = omega arith
 loop-again : tie.Need-loop-preserved invariant-loop decreases-loop
 loop-again c =
     ⊎_elim
-    (λ w. rw w.1 (counted-feed _ _ _ c.before.before.before.loop.invariant (omega arith) w.0.taken))
-    (λ w. rw w.1 (counted-other _ _ _ c.before.before.before.loop.invariant (omega arith) w.0.left))
+    (λ w. rw w.1 (counted_feed _ _ _ c.before.before.before.loop.invariant (omega arith) w.0.taken))
+    (λ w. rw w.1 (counted_other _ _ _ c.before.before.before.loop.invariant (omega arith) w.0.left))
     c.if1.branch
 
 returns : tie.Need-returns invariant-loop decreases-loop
-returns c = counted-all _ _ _ c.before.loop.invariant c.loop-test.false
+returns c = counted_all _ _ _ c.before.loop.invariant c.loop-test.false
 
 pub count-lines-spec : {M : Type 1} → statement M
 count-lines-spec =

@@ -1,5 +1,5 @@
 -- `sheet_lists::read_as` meets its contract. Assumes nothing.
-use Rattle.sheet_lists.proofs.Answers.{read-bad, read-short-froms, read-short-tos, read_whole}
+use Rattle.sheet_lists.proofs.Answers.{read_bad, read_short_froms, read_short_tos, read_whole}
 use borrow.Author.Rules.{rules}
 use Rattle.sheet_lists.proofs.read_as.Statement.{statement}
 use Rattle.sheet_lists.proofs.read_as.Tie as tie
@@ -24,7 +24,7 @@ returns : tie.Need-returns
 returns c =
     let f = c.before.before.before in
     let a = (start f).args in
-    read-short-froms a.list.now a.form a.froms.now a.tos.now (start f).requires _ _ f.form2.given.1 c.before.if1.true _ c.refuse-if.ensures
+    read_short_froms a.list.now a.form a.froms.now a.tos.now (start f).requires _ _ f.form2.given.1 c.before.if1.true _ c.refuse-if.ensures
 
 refuse-if-requires-2 : tie.Need-refuse-if-requires-2
 refuse-if-requires-2 c κs = search rules
@@ -33,7 +33,7 @@ returns-2 : tie.Need-returns-2
 returns-2 c =
     let f = c.before.before.before.before in
     let a = (start f).args in
-    read-short-tos a.list.now a.form a.froms.now a.tos.now (start f).requires _ _ f.form2.given.1 c.before.before.if1.false c.before.if2.true _ c.refuse-if2.ensures
+    read_short_tos a.list.now a.form a.froms.now a.tos.now (start f).requires _ _ f.form2.given.1 c.before.before.if1.false c.before.if2.true _ c.refuse-if2.ensures
 
 slice-aggregate-fill-pairs : tie.Need-slice-aggregate-fill-pairs
 slice-aggregate-fill-pairs c = search rules
@@ -49,7 +49,7 @@ returns-3 c =
     let f = c.before.before in
     let s = f.before.before.before.before.before in
     let a = s.args in
-    read-bad a.list.now a.form a.froms.now a.tos.now s.requires _ f.form.given.1 _ c.refuse-at.ensures
+    read_bad a.list.now a.form a.froms.now a.tos.now s.requires _ f.form.given.1 _ c.refuse-at.ensures
 
 same_length : tie.Need-same-length
 same_length c = c.before.before.before.before.before.fill-pairs.auto.1.1.1.1.0

@@ -2,7 +2,7 @@
 -- Assumes nothing.
 use Rattle.sheet_lists.specs.Form.{list_bad_line, list_detours, list_text}
 use Rattle.sheet_lists.specs.Reading.{list_form}
-use Rattle.sheet_lists.proofs.Answers.{form-within, read-long, read-formed}
+use Rattle.sheet_lists.proofs.Answers.{form_within, read_long, read_formed}
 use borrow.Author.Rules.{rules}
 use Rattle.sheet_lists.proofs.read_list.Statement.{statement}
 use Rattle.sheet_lists.proofs.read_list.Tie as tie
@@ -22,7 +22,7 @@ unfolding list_form
 returns c =
     let ri = c.before.before in
     let s = at-start ri in
-    read-long (list_bad_line s.args.list.now) (list_detours s.args.list.now) (list_text s.args.list.now) s.args.list.now s.args.froms.now
+    read_long (list_bad_line s.args.list.now) (list_detours s.args.list.now) (list_text s.args.list.now) s.args.list.now s.args.froms.now
     s.args.tos.now _ ri.refuse-if.ensures _ c.before.refused.ensures c.if1.true
 
 judge-list-requires : tie.Need-judge-list-requires
@@ -32,7 +32,7 @@ read-as-requires : tie.Need-read-as-requires
 read-as-requires c κs =
     let jl = c.before.before in
     let s = at-start jl.before.before.before in
-    form-within (list_bad_line s.args.list.now) (list_detours s.args.list.now) (list_text s.args.list.now) s.args.list.now s.args.froms.now
+    form_within (list_bad_line s.args.list.now) (list_detours s.args.list.now) (list_text s.args.list.now) s.args.list.now s.args.froms.now
     s.args.tos.now jl.judge-list.result jl.judge-list.ensures
 
 same_length : tie.Need-same-length
@@ -48,7 +48,7 @@ returns-2 c =
     let jl = ra.before.before.before in
     let ri = jl.before.before.before in
     let s = at-start ri in
-    read-formed (list_bad_line s.args.list.now) (list_detours s.args.list.now) (list_text s.args.list.now) s.args.list.now s.args.froms.now
+    read_formed (list_bad_line s.args.list.now) (list_detours s.args.list.now) (list_text s.args.list.now) s.args.list.now s.args.froms.now
     s.args.tos.now _ ri.refuse-if.ensures _ jl.before.before.refused.ensures jl.before.if1.false jl.judge-list.result jl.judge-list.ensures _ _ _
     ra.read_as.ensures
 

@@ -2,7 +2,7 @@
 -- Assumes nothing.
 use Rattle.sheet_lists.specs.Form.{plan_bad_line, detours_told, detour_text}
 use Rattle.sheet_lists.specs.Reading.{plan_form}
-use Rattle.sheet_lists.proofs.Answers.{form-within, read-long, read-formed}
+use Rattle.sheet_lists.proofs.Answers.{form_within, read_long, read_formed}
 use borrow.Author.Rules.{rules}
 use Rattle.sheet_lists.proofs.read_plan.Statement.{statement}
 use Rattle.sheet_lists.proofs.read_plan.Tie as tie
@@ -22,7 +22,7 @@ unfolding plan_form
 returns c =
     let ri = c.before.before in
     let s = at-start ri in
-    read-long (plan_bad_line s.args.plan.now) (detours_told s.args.plan.now) (detour_text s.args.plan.now) s.args.plan.now s.args.froms.now
+    read_long (plan_bad_line s.args.plan.now) (detours_told s.args.plan.now) (detour_text s.args.plan.now) s.args.plan.now s.args.froms.now
     s.args.tos.now _ ri.refuse-if.ensures _ c.before.refused.ensures c.if1.true
 
 judge-plan-requires : tie.Need-judge-plan-requires
@@ -32,7 +32,7 @@ read-as-requires : tie.Need-read-as-requires
 read-as-requires c κs =
     let jp = c.before.before in
     let s = at-start jp.before.before.before in
-    form-within (plan_bad_line s.args.plan.now) (detours_told s.args.plan.now) (detour_text s.args.plan.now) s.args.plan.now s.args.froms.now
+    form_within (plan_bad_line s.args.plan.now) (detours_told s.args.plan.now) (detour_text s.args.plan.now) s.args.plan.now s.args.froms.now
     s.args.tos.now jp.judge-plan.result jp.judge-plan.ensures
 
 same_length : tie.Need-same-length
@@ -48,7 +48,7 @@ returns-2 c =
     let jp = ra.before.before.before in
     let ri = jp.before.before.before in
     let s = at-start ri in
-    read-formed (plan_bad_line s.args.plan.now) (detours_told s.args.plan.now) (detour_text s.args.plan.now) s.args.plan.now s.args.froms.now
+    read_formed (plan_bad_line s.args.plan.now) (detours_told s.args.plan.now) (detour_text s.args.plan.now) s.args.plan.now s.args.froms.now
     s.args.tos.now _ ri.refuse-if.ensures _ jp.before.before.refused.ensures jp.before.if1.false jp.judge-plan.result jp.judge-plan.ensures _ _ _
     ra.read_as.ensures
 

@@ -1,6 +1,6 @@
 -- `sheet_lists::read_top` meets its contract: each line in turn, the first that is not as described being the answer.
 -- Assumes nothing.
-use Rattle.sheet_lists.proofs.Passing.{tape_bad, tape-good, number-bad, number-good, detours-bad, detours-over, detours-good}
+use Rattle.sheet_lists.proofs.Passing.{tape_bad, tape_good, number_bad, number_good, detours_bad, detours_over, detours_good}
 use Rattle.sheet_writer.specs.PlanSheet.{sum_key, reads_key, finish_key, end_key}
 use borrow.Author.Rules.{rules}
 use Rattle.sheet_lists.proofs.read_top.Statement.{statement}
@@ -34,8 +34,8 @@ returns-2 : tie.Need-returns-2
 returns-2 c =
     let nl = c.before.before in
     let n = nl.before.before.before in
-    let r1 = tape-good _ _ n.before.before.tape-line.ensures _ _ n.next.given.1 in
-    number-bad _ 1 sum_key _ _ r1 _ nl.number-line.ensures c.enum-told2.given.1
+    let r1 = tape_good _ _ n.before.before.tape-line.ensures _ _ n.next.given.1 in
+    number_bad _ 1 sum_key _ _ r1 _ nl.number-line.ensures c.enum-told2.given.1
 
 slice-aggregate-number-line-2 : tie.Need-slice-aggregate-number-line-2
 slice-aggregate-number-line-2 c = search rules
@@ -55,9 +55,9 @@ returns-3 c =
     let n2 = nl2.before.before.before in
     let nl = n2.before.before in
     let n = nl.before.before.before in
-    let r1 = tape-good _ _ n.before.before.tape-line.ensures _ _ n.next.given.1 in
-    let r2 = number-good _ 1 sum_key _ _ r1 _ nl.number-line.ensures _ _ n2.next2.given.1 in
-    number-bad _ 2 reads_key _ _ r2 _ nl2.number-line2.ensures c.enum-told3.given.1
+    let r1 = tape_good _ _ n.before.before.tape-line.ensures _ _ n.next.given.1 in
+    let r2 = number_good _ 1 sum_key _ _ r1 _ nl.number-line.ensures _ _ n2.next2.given.1 in
+    number_bad _ 2 reads_key _ _ r2 _ nl2.number-line2.ensures c.enum-told3.given.1
 
 slice-aggregate-number-line-3 : tie.Need-slice-aggregate-number-line-3
 slice-aggregate-number-line-3 c = search rules
@@ -79,10 +79,10 @@ returns-4 c =
     let n2 = nl2.before.before.before in
     let nl = n2.before.before in
     let n = nl.before.before.before in
-    let r1 = tape-good _ _ n.before.before.tape-line.ensures _ _ n.next.given.1 in
-    let r2 = number-good _ 1 sum_key _ _ r1 _ nl.number-line.ensures _ _ n2.next2.given.1 in
-    let r3 = number-good _ 2 reads_key _ _ r2 _ nl2.number-line2.ensures _ _ n3.next3.given.1 in
-    number-bad _ 3 finish_key _ _ r3 _ nl3.number-line3.ensures c.enum-told4.given.1
+    let r1 = tape_good _ _ n.before.before.tape-line.ensures _ _ n.next.given.1 in
+    let r2 = number_good _ 1 sum_key _ _ r1 _ nl.number-line.ensures _ _ n2.next2.given.1 in
+    let r3 = number_good _ 2 reads_key _ _ r2 _ nl2.number-line2.ensures _ _ n3.next3.given.1 in
+    number_bad _ 3 finish_key _ _ r3 _ nl3.number-line3.ensures c.enum-told4.given.1
 
 slice-aggregate-number-line-4 : tie.Need-slice-aggregate-number-line-4
 slice-aggregate-number-line-4 c = search rules
@@ -106,11 +106,11 @@ returns-5 c =
     let n2 = nl2.before.before.before in
     let nl = n2.before.before in
     let n = nl.before.before.before in
-    let r1 = tape-good _ _ n.before.before.tape-line.ensures _ _ n.next.given.1 in
-    let r2 = number-good _ 1 sum_key _ _ r1 _ nl.number-line.ensures _ _ n2.next2.given.1 in
-    let r3 = number-good _ 2 reads_key _ _ r2 _ nl2.number-line2.ensures _ _ n3.next3.given.1 in
-    let r4 = number-good _ 3 finish_key _ _ r3 _ nl3.number-line3.ensures _ _ n4.next4.given.1 in
-    number-bad _ 4 end_key _ _ r4 _ nl4.number-line4.ensures c.enum-told5.given.1
+    let r1 = tape_good _ _ n.before.before.tape-line.ensures _ _ n.next.given.1 in
+    let r2 = number_good _ 1 sum_key _ _ r1 _ nl.number-line.ensures _ _ n2.next2.given.1 in
+    let r3 = number_good _ 2 reads_key _ _ r2 _ nl2.number-line2.ensures _ _ n3.next3.given.1 in
+    let r4 = number_good _ 3 finish_key _ _ r3 _ nl3.number-line3.ensures _ _ n4.next4.given.1 in
+    number_bad _ 4 end_key _ _ r4 _ nl4.number-line4.ensures c.enum-told5.given.1
 
 slice-aggregate-number-line-5 : tie.Need-slice-aggregate-number-line-5
 slice-aggregate-number-line-5 c = search rules
@@ -136,12 +136,12 @@ returns-6 c =
     let n2 = nl2.before.before.before in
     let nl = n2.before.before in
     let n = nl.before.before.before in
-    let r1 = tape-good _ _ n.before.before.tape-line.ensures _ _ n.next.given.1 in
-    let r2 = number-good _ 1 sum_key _ _ r1 _ nl.number-line.ensures _ _ n2.next2.given.1 in
-    let r3 = number-good _ 2 reads_key _ _ r2 _ nl2.number-line2.ensures _ _ n3.next3.given.1 in
-    let r4 = number-good _ 3 finish_key _ _ r3 _ nl3.number-line3.ensures _ _ n4.next4.given.1 in
-    let r5 = number-good _ 4 end_key _ _ r4 _ nl4.number-line4.ensures _ _ n5.next5.given.1 in
-    detours-bad _ _ r5 _ nl5.number-line5.ensures c.enum-told6.given.1
+    let r1 = tape_good _ _ n.before.before.tape-line.ensures _ _ n.next.given.1 in
+    let r2 = number_good _ 1 sum_key _ _ r1 _ nl.number-line.ensures _ _ n2.next2.given.1 in
+    let r3 = number_good _ 2 reads_key _ _ r2 _ nl2.number-line2.ensures _ _ n3.next3.given.1 in
+    let r4 = number_good _ 3 finish_key _ _ r3 _ nl3.number-line3.ensures _ _ n4.next4.given.1 in
+    let r5 = number_good _ 4 end_key _ _ r4 _ nl4.number-line4.ensures _ _ n5.next5.given.1 in
+    detours_bad _ _ r5 _ nl5.number-line5.ensures c.enum-told6.given.1
 
 returns-7 : tie.Need-returns-7
 returns-7 c =
@@ -156,12 +156,12 @@ returns-7 c =
     let n2 = nl2.before.before.before in
     let nl = n2.before.before in
     let n = nl.before.before.before in
-    let r1 = tape-good _ _ n.before.before.tape-line.ensures _ _ n.next.given.1 in
-    let r2 = number-good _ 1 sum_key _ _ r1 _ nl.number-line.ensures _ _ n2.next2.given.1 in
-    let r3 = number-good _ 2 reads_key _ _ r2 _ nl2.number-line2.ensures _ _ n3.next3.given.1 in
-    let r4 = number-good _ 3 finish_key _ _ r3 _ nl3.number-line3.ensures _ _ n4.next4.given.1 in
-    let r5 = number-good _ 4 end_key _ _ r4 _ nl4.number-line4.ensures _ _ n5.next5.given.1 in
-    detours-over _ _ r5 _ nl5.number-line5.ensures _ _ d.detours.given.1 c.if1.true
+    let r1 = tape_good _ _ n.before.before.tape-line.ensures _ _ n.next.given.1 in
+    let r2 = number_good _ 1 sum_key _ _ r1 _ nl.number-line.ensures _ _ n2.next2.given.1 in
+    let r3 = number_good _ 2 reads_key _ _ r2 _ nl2.number-line2.ensures _ _ n3.next3.given.1 in
+    let r4 = number_good _ 3 finish_key _ _ r3 _ nl3.number-line3.ensures _ _ n4.next4.given.1 in
+    let r5 = number_good _ 4 end_key _ _ r4 _ nl4.number-line4.ensures _ _ n5.next5.given.1 in
+    detours_over _ _ r5 _ nl5.number-line5.ensures _ _ d.detours.given.1 c.if1.true
 
 returns-8 : tie.Need-returns-8
 returns-8 c =
@@ -176,12 +176,12 @@ returns-8 c =
     let n2 = nl2.before.before.before in
     let nl = n2.before.before in
     let n = nl.before.before.before in
-    let r1 = tape-good _ _ n.before.before.tape-line.ensures _ _ n.next.given.1 in
-    let r2 = number-good _ 1 sum_key _ _ r1 _ nl.number-line.ensures _ _ n2.next2.given.1 in
-    let r3 = number-good _ 2 reads_key _ _ r2 _ nl2.number-line2.ensures _ _ n3.next3.given.1 in
-    let r4 = number-good _ 3 finish_key _ _ r3 _ nl3.number-line3.ensures _ _ n4.next4.given.1 in
-    let r5 = number-good _ 4 end_key _ _ r4 _ nl4.number-line4.ensures _ _ n5.next5.given.1 in
-    detours-good _ _ r5 _ nl5.number-line5.ensures _ _ d.detours.given.1 c.if1.false
+    let r1 = tape_good _ _ n.before.before.tape-line.ensures _ _ n.next.given.1 in
+    let r2 = number_good _ 1 sum_key _ _ r1 _ nl.number-line.ensures _ _ n2.next2.given.1 in
+    let r3 = number_good _ 2 reads_key _ _ r2 _ nl2.number-line2.ensures _ _ n3.next3.given.1 in
+    let r4 = number_good _ 3 finish_key _ _ r3 _ nl3.number-line3.ensures _ _ n4.next4.given.1 in
+    let r5 = number_good _ 4 end_key _ _ r4 _ nl4.number-line4.ensures _ _ n5.next5.given.1 in
+    detours_good _ _ r5 _ nl5.number-line5.ensures _ _ d.detours.given.1 c.if1.false
 
 pub read-top-spec : {M : Type 1} → statement M
 read-top-spec =

@@ -2,8 +2,8 @@
 -- Assumes nothing.
 use borrow.Author.Rules.{rules}
 use native.Mathlib.Omega.{arith}
-use Rattle.sheet_loose.proofs.Passing.{number-unread, number_read}
-use Rattle.sheet_loose.proofs.Order.{wants-bad, text_behind, below-good}
+use Rattle.sheet_loose.proofs.Passing.{number_unread, number_read}
+use Rattle.sheet_loose.proofs.Order.{wants_bad, text_behind, below_good}
 use Rattle.sheet_loose.proofs.read_below.Statement.{statement}
 use Rattle.sheet_loose.proofs.read_below.Tie as tie
 
@@ -29,7 +29,7 @@ add-t11 c = omega (arith, c.before.before.before.before.before.requires.few)
 returns : tie.Need-returns
 returns c =
     let nl = c.before.before in
-    wants-bad _ _ _ nl.before.before.before.requires (number-unread _ _ _ _ _ nl.number-line.ensures c.enum_told.given.1)
+    wants_bad _ _ _ nl.before.before.before.requires (number_unread _ _ _ _ _ nl.number-line.ensures c.enum_told.given.1)
 
 want-lines-requires : tie.Need-want-lines-requires
 want-lines-requires c κs = (number_read _ _ _ _ _ c.before.before.before.number-line.ensures _ _ c.before.said.given.1).0.within
@@ -56,7 +56,7 @@ returns-3 c =
     let wl = c.before.before in
     let s = wl.before.before in
     let nl = s.before.before in
-    below-good _ _ _ nl.before.before.before.requires _ _ (number_read _ _ _ _ _ nl.number-line.ensures _ _ s.said.given.1) _ wl.want_lines.ensures c.if1.false
+    below_good _ _ _ nl.before.before.before.requires _ _ (number_read _ _ _ _ _ nl.number-line.ensures _ _ s.said.given.1) _ wl.want_lines.ensures c.if1.false
 
 pub read-below-spec : {M : Type 1} → statement M
 read-below-spec =

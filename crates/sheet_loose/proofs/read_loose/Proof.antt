@@ -1,7 +1,7 @@
 -- `sheet_loose::read_loose` meets its contract: the parts, and the rows that filling leaves.
 -- Assumes nothing.
 use borrow.Author.Rules.{rules}
-use Rattle.sheet_loose.proofs.Answers.{loose-read}
+use Rattle.sheet_loose.proofs.Answers.{loose_read}
 use Rattle.sheet_loose.proofs.read_loose.Statement.{statement}
 use Rattle.sheet_loose.proofs.read_loose.Tie as tie
 
@@ -27,7 +27,7 @@ returns : tie.Need-returns
 returns c =
     let f = c.before.before.before.before in
     let j = f.before.before.before.before in
-    loose-read _ _ _ _ j.before.read-parts.ensures _ j.judge-rows.ensures _ _ f.fill-pairs.ensures
+    loose_read _ _ _ _ j.before.read-parts.ensures _ j.judge-rows.ensures _ _ f.fill-pairs.ensures
 
 pub read-loose-spec : {M : Type 1} → statement M
 read-loose-spec =

@@ -1,8 +1,8 @@
 -- `sheet_loose::read_parts` meets its contract: 12, then the first five lines, then those below.
 -- Assumes nothing.
 use borrow.Author.Rules.{rules}
-use Rattle.sheet_loose.proofs.Order.{top_read, top-failed, below-read, below-failed, wants_at_lem}
-use Rattle.sheet_loose.proofs.Answers.{sheet-long, top-refuses, below-refuses, parts-good}
+use Rattle.sheet_loose.proofs.Order.{top_read, top_failed, below_read, below_failed, wants_at_lem}
+use Rattle.sheet_loose.proofs.Answers.{sheet_long, top_refuses, below_refuses, parts_good}
 use Rattle.sheet_loose.proofs.read_parts.Statement.{statement}
 use Rattle.sheet_loose.proofs.read_parts.Tie as tie
 
@@ -16,7 +16,7 @@ refused-parts-requires : tie.Need-refused-parts-requires
 refused-parts-requires c κs = search rules
 
 returns : tie.Need-returns
-returns c = sheet-long _ _ _ c.before.before.before.refuse-if.ensures c.before.before.refused.ensures c.before.if1.true _ c.refused-parts.ensures
+returns c = sheet_long _ _ _ c.before.before.before.refuse-if.ensures c.before.before.refused.ensures c.before.if1.true _ c.refused-parts.ensures
 
 read-top-requires : tie.Need-read-top-requires
 read-top-requires c κs = search rules
@@ -55,8 +55,8 @@ returns-2 : tie.Need-returns-2
 returns-2 c =
     let l = c.before.before.before in
     let e1 = l.before.before.before in
-    top-refuses _ _ _ e1.before.before.refuse-if.ensures e1.before.refused.ensures e1.if1.false _
-    (top-failed _ _ l.before.before.read-top.ensures _ l.line.given.1) _ c.before.refuse-at.ensures _ c.refused-parts2.ensures
+    top_refuses _ _ _ e1.before.before.refuse-if.ensures e1.before.refused.ensures e1.if1.false _
+    (top_failed _ _ l.before.before.read-top.ensures _ l.line.given.1) _ c.before.refuse-at.ensures _ c.refused-parts2.ensures
 
 returns-3 : tie.Need-returns-3
 returns-3 c =
@@ -64,8 +64,8 @@ returns-3 c =
     let rb = l2.before.before in
     let t = rb.before.before.before in
     let e1 = t.before.before.before in
-    below-refuses _ _ _ e1.before.before.refuse-if.ensures e1.before.refused.ensures e1.if1.false _
-    (top_read _ _ t.before.before.read-top.ensures _ t.top.given.1) _ (below-failed _ _ rb.read_below.ensures _ l2.line2.given.1) _
+    below_refuses _ _ _ e1.before.before.refuse-if.ensures e1.before.refused.ensures e1.if1.false _
+    (top_read _ _ t.before.before.read-top.ensures _ t.top.given.1) _ (below_failed _ _ rb.read_below.ensures _ l2.line2.given.1) _
     c.before.refuse-at2.ensures _ c.refused-parts3.ensures
 
 returns-4 : tie.Need-returns-4
@@ -73,9 +73,9 @@ returns-4 c =
     let rb = c.before.before.before in
     let t = rb.before.before.before in
     let e1 = t.before.before.before in
-    parts-good _ _ _ e1.before.before.refuse-if.ensures e1.before.refused.ensures e1.if1.false _
+    parts_good _ _ _ e1.before.before.refuse-if.ensures e1.before.refused.ensures e1.if1.false _
     (top_read _ _ t.before.before.read-top.ensures _ t.top.given.1) _ rb.before.file-lines.ensures _ _ _
-    (below-read _ _ rb.read_below.ensures _ _ _ c.before.said.given.1)
+    (below_read _ _ rb.read_below.ensures _ _ _ c.before.said.given.1)
 
 pub read-parts-spec : {M : Type 1} → statement M
 read-parts-spec =

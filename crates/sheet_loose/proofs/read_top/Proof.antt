@@ -1,8 +1,8 @@
 -- `sheet_loose::read_top` meets its contract: each line in turn, the first that is not as described being the answer.
 -- Assumes nothing.
 use borrow.Author.Rules.{rules}
-use Rattle.sheet_loose.proofs.Passing.{name-unread, name-read, number-unread, number_read, rule-unread, rule-read}
-use Rattle.sheet_loose.proofs.Order.{tape_bad, head-bad, turn-bad, rule-after, rule_bad, files-bad, top-good}
+use Rattle.sheet_loose.proofs.Passing.{name_unread, name_read, number_unread, number_read, rule_unread, rule_read}
+use Rattle.sheet_loose.proofs.Order.{tape_bad, head_bad, turn_bad, rule_after, rule_bad, files_bad, top_good}
 use Rattle.sheet_loose.proofs.read_top.Statement.{statement}
 use Rattle.sheet_loose.proofs.read_top.Tie as tie
 
@@ -16,7 +16,7 @@ enum_told : tie.Need-enum-told
 enum_told c = search rules
 
 returns : tie.Need-returns
-returns c = tape_bad _ (name-unread _ _ c.before.before.tape-line.ensures c.enum_told.given.1)
+returns c = tape_bad _ (name_unread _ _ c.before.before.tape-line.ensures c.enum_told.given.1)
 
 slice-aggregate-number-line : tie.Need-slice-aggregate-number-line
 slice-aggregate-number-line c = search rules
@@ -38,7 +38,7 @@ returns-2 : tie.Need-returns-2
 returns-2 c =
     let nl = c.before.before in
     let ha = nl.before.before.before in
-    head-bad _ _ (name-read _ _ ha.before.before.tape-line.ensures _ _ ha.head_at.given.1) (number-unread _ _ _ _ _ nl.number-line.ensures c.enum-told2.given.1)
+    head_bad _ _ (name_read _ _ ha.before.before.tape-line.ensures _ _ ha.head_at.given.1) (number_unread _ _ _ _ _ nl.number-line.ensures c.enum-told2.given.1)
 
 turn-line-requires : tie.Need-turn-line-requires
 turn-line-requires c κs = search rules
@@ -55,8 +55,8 @@ returns-3 c =
     let ta = tl.before.before in
     let nl = ta.before.before in
     let ha = nl.before.before.before in
-    turn-bad _ _ (name-read _ _ ha.before.before.tape-line.ensures _ _ ha.head_at.given.1) _
-    (number_read _ _ _ _ _ nl.number-line.ensures _ _ ta.turn_at.given.1).0 (number-unread _ _ _ _ _ tl.turn_line.ensures c.enum-told3.given.1)
+    turn_bad _ _ (name_read _ _ ha.before.before.tape-line.ensures _ _ ha.head_at.given.1) _
+    (number_read _ _ _ _ _ nl.number-line.ensures _ _ ta.turn_at.given.1).0 (number_unread _ _ _ _ _ tl.turn_line.ensures c.enum-told3.given.1)
 
 rule-line-requires : tie.Need-rule-line-requires
 rule-line-requires c κs = search rules
@@ -75,9 +75,9 @@ returns-4 c =
     let ta = tl.before.before in
     let nl = ta.before.before in
     let ha = nl.before.before.before in
-    rule_bad _ _ (name-read _ _ ha.before.before.tape-line.ensures _ _ ha.head_at.given.1) _
+    rule_bad _ _ (name_read _ _ ha.before.before.tape-line.ensures _ _ ha.head_at.given.1) _
     (number_read _ _ _ _ _ nl.number-line.ensures _ _ ta.turn_at.given.1).0 _ _ (number_read _ _ _ _ _ tl.turn_line.ensures _ _ t.turn.given.1)
-    (rule-unread _ _ _ rl.rule_line.ensures c.enum-told4.given.1)
+    (rule_unread _ _ _ rl.rule_line.ensures c.enum-told4.given.1)
 
 slice-aggregate-number-line-2 : tie.Need-slice-aggregate-number-line-2
 slice-aggregate-number-line-2 c = search rules
@@ -101,9 +101,9 @@ returns-5 c =
     let ta = tl.before.before in
     let nl = ta.before.before in
     let ha = nl.before.before.before in
-    files-bad _ _ (name-read _ _ ha.before.before.tape-line.ensures _ _ ha.head_at.given.1) _
+    files_bad _ _ (name_read _ _ ha.before.before.tape-line.ensures _ _ ha.head_at.given.1) _
     (number_read _ _ _ _ _ nl.number-line.ensures _ _ ta.turn_at.given.1).0 _ _ (number_read _ _ _ _ _ tl.turn_line.ensures _ _ t.turn.given.1) _ _
-    (rule-read _ _ _ rl.rule_line.ensures _ _ s.sweep.given.1) (number-unread _ _ _ _ _ nl2.number-line2.ensures c.enum-told5.given.1)
+    (rule_read _ _ _ rl.rule_line.ensures _ _ s.sweep.given.1) (number_unread _ _ _ _ _ nl2.number-line2.ensures c.enum-told5.given.1)
 
 sub-t21 : tie.Need-overflow-sub-t21
 sub-t21 c =
@@ -112,7 +112,7 @@ sub-t21 c =
     let ta = tl.before.before in
     let nl = ta.before.before in
     let ha = nl.before.before.before in
-    rule-after _ _ (name-read _ _ ha.before.before.tape-line.ensures _ _ ha.head_at.given.1) _
+    rule_after _ _ (name_read _ _ ha.before.before.tape-line.ensures _ _ ha.head_at.given.1) _
     (number_read _ _ _ _ _ nl.number-line.ensures _ _ ta.turn_at.given.1).0 _ _ (number_read _ _ _ _ _ tl.turn_line.ensures _ _ t.turn.given.1)
 
 returns-6 : tie.Need-returns-6
@@ -125,9 +125,9 @@ returns-6 c =
     let ta = tl.before.before in
     let nl = ta.before.before in
     let ha = nl.before.before.before in
-    top-good _ _ (name-read _ _ ha.before.before.tape-line.ensures _ _ ha.head_at.given.1) _
+    top_good _ _ (name_read _ _ ha.before.before.tape-line.ensures _ _ ha.head_at.given.1) _
     (number_read _ _ _ _ _ nl.number-line.ensures _ _ ta.turn_at.given.1).0 _ _ (number_read _ _ _ _ _ tl.turn_line.ensures _ _ t.turn.given.1) _ _
-    (rule-read _ _ _ rl.rule_line.ensures _ _ s.sweep.given.1) _ _ (number_read _ _ _ _ _ nl2.number-line2.ensures _ _ c.before.said.given.1)
+    (rule_read _ _ _ rl.rule_line.ensures _ _ s.sweep.given.1) _ _ (number_read _ _ _ _ _ nl2.number-line2.ensures _ _ c.before.said.given.1)
 
 pub read-top-spec : {M : Type 1} → statement M
 read-top-spec =

@@ -2,8 +2,8 @@
 -- Assumes nothing.
 use borrow.Author.Rules.{rules}
 use native.Mathlib.Omega.{arith}
-use Rattle.text_lines.proofs.Passing.{lines-ended, lines-failed}
-use Rattle.sheet_loose.proofs.Passing.{block-full, block-part, block-never}
+use Rattle.text_lines.proofs.Passing.{lines_ended, lines_failed}
+use Rattle.sheet_loose.proofs.Passing.{block_full, block_part, block_never}
 use Rattle.sheet_loose.proofs.want_lines.Statement.{statement}
 use Rattle.sheet_loose.proofs.want_lines.Tie as tie
 
@@ -23,7 +23,7 @@ slice-aggregate-pair-lines-2 : tie.Need-slice-aggregate-pair-lines-2
 slice-aggregate-pair-lines-2 c = search rules
 
 sub-pair-lines : tie.Need-overflow-sub-pair-lines
-sub-pair-lines c = let b = (lines-failed _ _ _ _ _ c.before.before.before.before.pair-lines.ensures _ c.before.before.line.given.1) in omega (arith, b.some)
+sub-pair-lines c = let b = (lines_failed _ _ _ _ _ c.before.before.before.before.pair-lines.ensures _ c.before.before.line.given.1) in omega (arith, b.some)
 
 pair-lines-requires-2 : tie.Need-pair-lines-requires-2
 pair-lines-requires-2 c κs = search rules
@@ -38,27 +38,27 @@ at-line c = c.before.before.before.before.before.before
 sub-t19 : tie.Need-overflow-sub-t19
 sub-t19 c =
     let l = at-line c in
-    let b = (lines-failed _ _ _ _ _ l.before.before.pair-lines.ensures _ l.line.given.1) in omega (arith, b.some)
+    let b = (lines_failed _ _ _ _ _ l.before.before.pair-lines.ensures _ l.line.given.1) in omega (arith, b.some)
 
 enum_told : tie.Need-enum-told
 enum_told c = search rules
 
 returns : tie.Need-returns
-returns c = block-full _ _ _ _ _ (lines-ended _ _ _ _ _ c.before.before.before.pair-lines.ensures _ c.before.next.given.1)
+returns c = block_full _ _ _ _ _ (lines_ended _ _ _ _ _ c.before.before.before.pair-lines.ensures _ c.before.next.given.1)
 
 returns-2 : tie.Need-returns-2
 returns-2 c =
     let l = at-line c in
-    block-part _ _ _ _ _ (lines-failed _ _ _ _ _ l.before.before.pair-lines.ensures _ l.line.given.1) _
-    (lines-ended _ _ _ _ _ c.before.before.before.pair-lines2.ensures _ c.before.next2.given.1)
+    block_part _ _ _ _ _ (lines_failed _ _ _ _ _ l.before.before.pair-lines.ensures _ l.line.given.1) _
+    (lines_ended _ _ _ _ _ c.before.before.before.pair-lines2.ensures _ c.before.next2.given.1)
 
 returns-3 : tie.Need-returns-3
 returns-3 c =
     let pl2 = c.before.before in
     let l = pl2.before.before.before in
     absurd
-    (block-never _ _ _ _ _ (lines-failed _ _ _ _ _ l.before.before.pair-lines.ensures _ l.line.given.1) _
-    (lines-failed _ _ _ _ _ pl2.pair-lines2.ensures _ c.enum_told.given.1))
+    (block_never _ _ _ _ _ (lines_failed _ _ _ _ _ l.before.before.pair-lines.ensures _ l.line.given.1) _
+    (lines_failed _ _ _ _ _ pl2.pair-lines2.ensures _ c.enum_told.given.1))
 
 pub want-lines-spec : {M : Type 1} → statement M
 want-lines-spec =

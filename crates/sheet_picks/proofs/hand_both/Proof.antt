@@ -4,7 +4,7 @@ use borrow.Author.Rules.{rules}
 use native.Mathlib.Omega.{arith}
 use mathlib.Core.Path.{refl, ◌∙◌, sym}
 use Rattle.sheet_picks.proofs.Laying.{part_size}
-use Rattle.sheet_picks.proofs.Handing.{both-none, both_put}
+use Rattle.sheet_picks.proofs.Handing.{both_none, both_put}
 use Rattle.sheet_picks.proofs.hand_both.Statement.{statement}
 use Rattle.sheet_picks.proofs.hand_both.Tie as tie
 
@@ -71,7 +71,7 @@ same_length c = c.before.before.before.before.before.before.put-names.ensures.lo
 
 returns : tie.Need-returns
 returns c =
-    both-none _ _ (at-start-from-unpicked c).args.out.now _ _ _ _ _ (at-after-put-sheet-from-unpicked c).put-sheet.ensures _ _ c.before.before.before.before.before.before.put-names.ensures _ c.before.before.before.judge-rows.ensures _ c.before.before.refused.ensures c.before.if1.true _ c.unpicked.ensures
+    both_none _ _ (at-start-from-unpicked c).args.out.now _ _ _ _ _ (at-after-put-sheet-from-unpicked c).put-sheet.ensures _ _ c.before.before.before.before.before.before.put-names.ensures _ c.before.before.before.judge-rows.ensures _ c.before.before.refused.ensures c.before.if1.true _ c.unpicked.ensures
 
 array-share-prefix-page : tie.Need-array-share-prefix-page
 array-share-prefix-page c = search rules

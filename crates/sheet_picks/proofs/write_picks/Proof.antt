@@ -4,8 +4,8 @@ use borrow.Author.Rules.{rules}
 use native.Mathlib.Omega.{arith}
 use mathlib.Core.Path.{sym}
 use lib.Seq.{length-take-le}
-use Rattle.sheet_picks.proofs.Stands.{paths-ready}
-use Rattle.sheet_picks.proofs.Handing.{picks-refused, picks-pass, picks_rows, picks-few, picks-written}
+use Rattle.sheet_picks.proofs.Stands.{paths_ready}
+use Rattle.sheet_picks.proofs.Handing.{picks_refused, picks_pass, picks_rows, picks_few, picks_written}
 use Rattle.sheet_picks.proofs.write_picks.Statement.{statement}
 use Rattle.sheet_picks.proofs.write_picks.Tie as tie
 
@@ -76,7 +76,7 @@ unpicked-requires c κs = search rules
 returns : tie.Need-returns
 returns c =
     let a = (at-start-from-unpicked c).args in
-    picks-refused _ _ _ _ a.head.now a.turn.now _ _ _ _ _ c.before.before.before.before.before.before.fill-entries.ensures _ c.before.before.before.judge.ensures _ c.before.before.refused.ensures c.before.if1.true _ c.unpicked.ensures
+    picks_refused _ _ _ _ a.head.now a.turn.now _ _ _ _ _ c.before.before.before.before.before.before.fill-entries.ensures _ c.before.before.before.judge.ensures _ c.before.before.refused.ensures c.before.if1.true _ c.unpicked.ensures
 
 count-lines-requires : tie.Need-count-lines-requires
 count-lines-requires c κs = search rules
@@ -116,8 +116,8 @@ hand-both-requires c κs =
     let j = (at-after-judge-from-hand-both-arg2 c).judge.ensures in
     let s = (at-after-refused-from-hand-both-arg2 c).refused.ensures in
     let l = (at-else1-from-hand-both-arg2 c).if1.false in
-    let pass = picks-pass a.name.now a.list.now _ _ a.head.now a.turn.now a.out.now a.names.now _ _ _ fe _ j _ s l in
-    (pass.short, (paths-ready _ pass.paths _ _ (search rules) (search rules) _ (at-after-count-lines-from-hand-both-arg2 c).count-lines.ensures _ _ (at-after-fill-paths-from-hand-both-arg2 c).fill-paths.ensures, (picks_rows a.name.now a.list.now _ _ a.head.now a.turn.now a.out.now a.names.now _ _ _ fe _ j _ s l, picks-few a.name.now a.list.now _ _ a.head.now a.turn.now a.out.now a.names.now _ _ _ fe _ j _ s l)))
+    let pass = picks_pass a.name.now a.list.now _ _ a.head.now a.turn.now a.out.now a.names.now _ _ _ fe _ j _ s l in
+    (pass.short, (paths_ready _ pass.paths _ _ (search rules) (search rules) _ (at-after-count-lines-from-hand-both-arg2 c).count-lines.ensures _ _ (at-after-fill-paths-from-hand-both-arg2 c).fill-paths.ensures, (picks_rows a.name.now a.list.now _ _ a.head.now a.turn.now a.out.now a.names.now _ _ _ fe _ j _ s l, picks_few a.name.now a.list.now _ _ a.head.now a.turn.now a.out.now a.names.now _ _ _ fe _ j _ s l)))
 
 same_length : tie.Need-same-length
 same_length c = search rules
@@ -128,7 +128,7 @@ same-length-2 c = search rules
 returns-2 : tie.Need-returns-2
 returns-2 c =
     let a = (at-start-from-slice-known4 c).args in
-    picks-written _ _ _ _ _ _ _ _ _ _ _ (at-after-fill-entries-from-slice-known4 c).fill-entries.ensures _ (at-after-judge-from-slice-known4 c).judge.ensures _ (at-after-refused-from-slice-known4 c).refused.ensures (at-else1-from-slice-known4 c).if1.false _ _ _ c.before.before.before.before.hand-both.ensures
+    picks_written _ _ _ _ _ _ _ _ _ _ _ (at-after-fill-entries-from-slice-known4 c).fill-entries.ensures _ (at-after-judge-from-slice-known4 c).judge.ensures _ (at-after-refused-from-slice-known4 c).refused.ensures (at-else1-from-slice-known4 c).if1.false _ _ _ c.before.before.before.before.hand-both.ensures
 
 pub write-picks-spec : {M : Type 1} → statement M
 write-picks-spec = tie.close (tie.spec slice-aggregate-fill-entries slice-aggregate-fill-entries-2 fill-entries-requires judge-requires refused-requires unpicked-requires returns count-lines-requires slice-aggregate-fill-paths slice-aggregate-fill-paths-2 fill-paths-requires slice-aggregate-hand-both slice-aggregate-hand-both-2 array-share-prefix-firsts slice-aggregate-hand-both-3 array-share-prefix-lasts slice-aggregate-hand-both-4 hand-both-requires same_length same-length-2 returns-2)

@@ -2,7 +2,7 @@
 -- Assumes nothing.
 use mathlib.Core.Path.{sym, refl}
 use lib.Seq.{length-take-le}
-use Rattle.sheet_runs.proofs.Filling.{in_row, first-entries}
+use Rattle.sheet_runs.proofs.Filling.{in_row, first_entries}
 use borrow.Author.Rules.{rules}
 use Rattle.sheet_runs.proofs.entries.Statement.{statement}
 use Rattle.sheet_runs.proofs.entries.Tie as tie
@@ -18,7 +18,7 @@ slice-aggregate-result : tie.Need-slice-aggregate-result
 slice-aggregate-result c = let w = c.before in let a = (start w).args in sym (length-take-le _ _ (in_row a.row.now a.n _ w.within.ensures))
 
 returns : tie.Need-returns
-returns c = let w = c.before in let a = (start w).args in (first-entries a.row.now a.n _ w.within.ensures, refl)
+returns c = let w = c.before in let a = (start w).args in (first_entries a.row.now a.n _ w.within.ensures, refl)
 
 pub entries-spec : {M : Type 1} → statement M
 entries-spec = tie.close (tie.spec within-requires slice-aggregate-result returns)

@@ -1,6 +1,6 @@
 -- `sheet_runs::read_run` meets its contract: the reader's answer, and the rows as it leaves them.
 -- Assumes nothing.
-use Rattle.sheet_runs.proofs.Filling.{run-read}
+use Rattle.sheet_runs.proofs.Filling.{run_read_lem}
 use borrow.Author.Rules.{rules}
 use Rattle.sheet_runs.proofs.read_run.Statement.{statement}
 use Rattle.sheet_runs.proofs.read_run.Tie as tie
@@ -31,7 +31,7 @@ abbrev reading : tie.After-said-by → tie.After-read-sheet
 reading c = c.before.before.before.before.before.before
 
 returns : tie.Need-returns
-returns c = run-read _ (reading c).read-sheet.result _ (reading c).read-sheet.ensures c.said-by.result c.said-by.ensures
+returns c = run_read_lem _ (reading c).read-sheet.result _ (reading c).read-sheet.ensures c.said-by.result c.said-by.ensures
 
 pub read-run-spec : {M : Type 1} → statement M
 read-run-spec =

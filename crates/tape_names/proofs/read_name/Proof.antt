@@ -4,7 +4,7 @@ use borrow.Author.Rules.{rules}
 use lib.ListN.{length}
 use Rattle.tape_markup.specs.Places.{tokens_at}
 use Rattle.tape_files.proofs.Placing.{placed_in}
-use Rattle.tape_names.proofs.Names.{NameLeft, left-none, left-byte, left_over}
+use Rattle.tape_names.proofs.Names.{NameLeft, left_none, left_byte, left_over}
 use Rattle.tape_names.proofs.read_name.Statement.{statement}
 use Rattle.tape_names.proofs.read_name.Tie as tie
 
@@ -15,7 +15,7 @@ abbrev decreases-loop : tie.decreases-loop
 decreases-loop text list starts ends order naming₀ here₀ naming here = length (tokens_at text here)
 
 loop-holds : tie.Need-loop-init invariant-loop decreases-loop
-loop-holds c = left-none _ _ _ _ _ _ _ c.before.before.before.before.before.requires
+loop-holds c = left_none _ _ _ _ _ _ _ c.before.before.before.before.before.requires
 
 next-byte-requires : tie.Need-next-byte-requires invariant-loop decreases-loop
 next-byte-requires c κs = search rules
@@ -47,7 +47,7 @@ loop-again c =
     let b = c.before.before in
     let s = b.before.before in
     let p = s.before.loop.invariant in
-    left-byte _ _ _ _ _ _ _ _ _ p _ _ (rw b.met.given.1 at (rw (placed_in _ _ p.within) at s.next-byte.ensures)) _ c.with_byte.ensures
+    left_byte _ _ _ _ _ _ _ _ _ p _ _ (rw b.met.given.1 at (rw (placed_in _ _ p.within) at s.next-byte.ensures)) _ c.with_byte.ensures
 
 pub read-name-spec : {M : Type 1} → statement M
 read-name-spec =

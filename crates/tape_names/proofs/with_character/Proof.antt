@@ -1,7 +1,7 @@
 -- `tape_names::with_character` meets its contract: as many bytes as the character has.
 -- Assumes nothing.
 use borrow.Author.Rules.{rules}
-use Rattle.tape_names.proofs.Names.{no_bytes, one_byte, two_bytes, three-bytes, four_bytes}
+use Rattle.tape_names.proofs.Names.{no_bytes, one_byte, two_bytes, three_bytes, four_bytes}
 use Rattle.tape_names.proofs.with_character.Statement.{statement}
 use Rattle.tape_names.proofs.with_character.Tie as tie
 
@@ -36,7 +36,7 @@ returns-4 c =
     let three = c.before in
     let two = three.before.before in
     let one = two.before.before in
-    three-bytes _ _ _ _ _ _ _ one.before.before.encode.ensures _ one.narrow.ensures _ two.narrow2.ensures _ three.narrow3.ensures c.if4.true
+    three_bytes _ _ _ _ _ _ _ one.before.before.encode.ensures _ one.narrow.ensures _ two.narrow2.ensures _ three.narrow3.ensures c.if4.true
 
 narrow-requires-4 : tie.Need-narrow-requires-4
 narrow-requires-4 c κs = search rules

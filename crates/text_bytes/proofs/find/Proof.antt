@@ -3,7 +3,7 @@
 use borrow.Author.Rules.{rules}
 use Prim.Native.Nat.{◌-◌}
 use lib.ListN.{length}
-use Rattle.text_bytes.proofs.Bytes.{Searched, searched_none, byte-here, byte-passed, byte-nowhere}
+use Rattle.text_bytes.proofs.Bytes.{Searched, searched_none, byte_here, byte_passed, byte_nowhere}
 use Rattle.text_bytes.proofs.find.Statement.{statement}
 use Rattle.text_bytes.proofs.find.Tie as tie
 
@@ -20,7 +20,7 @@ shared-slice-read-if1 : tie.Need-shared-slice-read-if1 invariant-loop decreases-
 shared-slice-read-if1 c = search rules
 
 returns : tie.Need-returns invariant-loop decreases-loop
-returns c = byte-here _ _ _ c.before.before.before.loop.invariant (search rules) c.if1.true
+returns c = byte_here _ _ _ c.before.before.before.loop.invariant (search rules) c.if1.true
 
 add-i : tie.Need-overflow-add-i invariant-loop decreases-loop
 add-i c = search rules
@@ -29,10 +29,10 @@ loop-less : tie.Need-loop-smaller invariant-loop decreases-loop
 loop-less c = search rules
 
 loop-again : tie.Need-loop-preserved invariant-loop decreases-loop
-loop-again c = byte-passed _ _ _ c.before.before.before.loop.invariant (search rules) c.if1.false
+loop-again c = byte_passed _ _ _ c.before.before.before.loop.invariant (search rules) c.if1.false
 
 returns-2 : tie.Need-returns-2 invariant-loop decreases-loop
-returns-2 c = byte-nowhere _ _ _ c.before.loop.invariant c.loop-test.false
+returns-2 c = byte_nowhere _ _ _ c.before.loop.invariant c.loop-test.false
 
 pub find_spec : {M : Type 1} → statement M
 find_spec =

@@ -4,7 +4,7 @@ use Prim.Native.Nat.{◌-◌}
 use mathlib.Core.Path.{sym, ◌∙◌}
 use lib.ListN.{length}
 use Rattle.text_bytes.specs.Text.{is_name_byte}
-use Rattle.text_bytes.proofs.Bytes.{AllPassed, all_none, kind-differs, kind-passed, kind-done, name_short, name_long, name_bad, name_good}
+use Rattle.text_bytes.proofs.Bytes.{AllPassed, all_none, kind_differs, kind_passed, kind_done, name_short, name_long, name_bad, name_good}
 use Rattle.text_bytes.proofs.is_name.Statement.{statement}
 use Rattle.text_bytes.proofs.is_name.Tie as tie
 
@@ -40,7 +40,7 @@ returns-3 : tie.Need-returns-3 invariant-loop decreases-loop
 returns-3 c =
     let al = c.before.before.before.before in
     let a = (at-start al).args in
-    name_bad a.text.now (kind-differs is_name_byte _ _ al.loop.invariant (search rules) (sym c.before.is-name-byte.ensures ∙ not-true _ c.if3.true))
+    name_bad a.text.now (kind_differs is_name_byte _ _ al.loop.invariant (search rules) (sym c.before.is-name-byte.ensures ∙ not-true _ c.if3.true))
 
 add-i : tie.Need-overflow-add-i invariant-loop decreases-loop
 add-i c = search rules
@@ -49,12 +49,12 @@ loop-less : tie.Need-loop-smaller invariant-loop decreases-loop
 loop-less c = search rules
 
 loop-again : tie.Need-loop-preserved invariant-loop decreases-loop
-loop-again c = kind-passed is_name_byte _ _ c.before.before.before.before.loop.invariant (search rules) (sym c.before.is-name-byte.ensures ∙ not-false _ c.if3.false)
+loop-again c = kind_passed is_name_byte _ _ c.before.before.before.before.loop.invariant (search rules) (sym c.before.is-name-byte.ensures ∙ not-false _ c.if3.false)
 
 returns-4 : tie.Need-returns-4 invariant-loop decreases-loop
 returns-4 c =
     let a = (at-start c.before).args in
-    name_good a.text.now (search rules) (search rules) (kind-done is_name_byte _ _ c.before.loop.invariant c.loop-test.false)
+    name_good a.text.now (search rules) (search rules) (kind_done is_name_byte _ _ c.before.loop.invariant c.loop-test.false)
 
 pub is-name-spec : {M : Type 1} → statement M
 is-name-spec =

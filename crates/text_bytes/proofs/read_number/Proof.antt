@@ -5,7 +5,7 @@ use borrow.Author.Rules.{rules}
 use borrow.Author.Tests.{not-true, not-false}
 use Prim.Native.Nat.{◌-◌}
 use lib.ListN.{length, get_or}
-use Rattle.text_bytes.proofs.Bytes.{Growing, growing_none, badly_begun, not_digit, too_large, digit-read, number_read}
+use Rattle.text_bytes.proofs.Bytes.{Growing, growing_none, badly_begun, not_digit, too_large, digit_read, number_read}
 use Rattle.text_bytes.proofs.read_number.Statement.{statement}
 use Rattle.text_bytes.proofs.read_number.Tie as tie
 
@@ -85,7 +85,7 @@ loop-again c =
     let ib = c.before.before in
     let al = ib.before.before.before in
     let d = digit_bounds (get_or (at-start al).args.text.now al.loop.i 0) _ ib.is-between.ensures (not-false _ c.before.if2.false) in
-    digit-read _ _ _ al.loop.invariant (search rules) (sym ib.is-between.ensures ∙ not-false _ c.before.if2.false) (omega arith)
+    digit_read _ _ _ al.loop.invariant (search rules) (sym ib.is-between.ensures ∙ not-false _ c.before.if2.false) (omega arith)
 
 returns-4 : tie.Need-returns-4 invariant-loop decreases-loop
 returns-4 c = number_read _ _ _ c.before.loop.invariant c.loop-test.false (sym c.before.before.before.well-begun.ensures ∙ not-false _ c.before.before.if1.false)

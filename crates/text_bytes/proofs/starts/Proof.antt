@@ -3,7 +3,7 @@
 use borrow.Author.Rules.{rules}
 use Prim.Native.Nat.{◌-◌}
 use lib.ListN.{length}
-use Rattle.text_bytes.proofs.Bytes.{Compared, compared_none, key-differs, key-passed, key-done, short_text}
+use Rattle.text_bytes.proofs.Bytes.{Compared, compared_none, key_differs, key_passed, key_done, short_text}
 use Rattle.text_bytes.proofs.starts.Statement.{statement}
 use Rattle.text_bytes.proofs.starts.Tie as tie
 
@@ -26,7 +26,7 @@ shared-slice-read-if2-2 : tie.Need-shared-slice-read-if2-2 invariant-loop decrea
 shared-slice-read-if2-2 c = search rules
 
 returns-2 : tie.Need-returns-2 invariant-loop decreases-loop
-returns-2 c = key-differs _ _ _ c.before.before.before.before.loop.invariant (search rules) (search rules) c.if2.true
+returns-2 c = key_differs _ _ _ c.before.before.before.before.loop.invariant (search rules) (search rules) c.if2.true
 
 add-i : tie.Need-overflow-add-i invariant-loop decreases-loop
 add-i c = search rules
@@ -35,10 +35,10 @@ loop-less : tie.Need-loop-smaller invariant-loop decreases-loop
 loop-less c = search rules
 
 loop-again : tie.Need-loop-preserved invariant-loop decreases-loop
-loop-again c = key-passed _ _ _ c.before.before.before.before.loop.invariant (search rules) (search rules) c.if2.false
+loop-again c = key_passed _ _ _ c.before.before.before.before.loop.invariant (search rules) (search rules) c.if2.false
 
 returns-3 : tie.Need-returns-3 invariant-loop decreases-loop
-returns-3 c = key-done _ _ _ c.before.loop.invariant (search rules) c.loop-test.false
+returns-3 c = key_done _ _ _ c.before.loop.invariant (search rules) c.loop-test.false
 
 pub starts-spec : {M : Type 1} → statement M
 starts-spec =

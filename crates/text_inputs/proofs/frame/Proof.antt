@@ -1,7 +1,7 @@
 -- `text_inputs::frame` meets its contract: the first line is a number, or not.
 -- Assumes nothing.
 use mathlib.Core.Path.{refl}
-use Rattle.text_inputs.proofs.Parts.{no_count, next_within, count-framed}
+use Rattle.text_inputs.proofs.Parts.{no_count, next_within, count_framed}
 use borrow.Author.Rules.{rules}
 use Rattle.text_inputs.proofs.frame.Statement.{statement}
 use Rattle.text_inputs.proofs.frame.Tie as tie
@@ -28,7 +28,7 @@ frame-behind-requires : tie.Need-frame-behind-requires
 frame-behind-requires c κs = search rules
 
 returns-2 : tie.Need-returns-2
-returns-2 c = count-framed _ _ c.before.before.before.before.number-line.ensures _ _ c.before.before.number.given.1 _ _ refl _ c.frame-behind.ensures
+returns-2 c = count_framed _ _ c.before.before.before.before.number-line.ensures _ _ c.before.before.number.given.1 _ _ refl _ c.frame-behind.ensures
 
 pub frame-spec : {M : Type 1} → statement M
 frame-spec =

@@ -2,7 +2,7 @@
 -- Assumes nothing.
 use mathlib.Core.Path.{◌∙◌}
 use Prim.Native.Nat.{◌-◌}
-use Rattle.text_inputs.proofs.Reading.{Reading, nothing_read, line_ended, line-whole, one_more}
+use Rattle.text_inputs.proofs.Reading.{Reading, nothing_read, line_ended, line_whole, one_more}
 use native.Mathlib.Omega.{arith}
 use lib.ListN.{length, length-set}
 use borrow.Author.Rules.{rules}
@@ -46,7 +46,7 @@ same-length-2 c =
     length-set l.loop.line l.loop.n _ ∙ l.loop.invariant.long
 
 returns-2 : tie.Need-returns-2 invariant-loop decreases-loop
-returns-2 c = line-whole _ _ _ c.before.before.before.before.before.before.loop.invariant _ c.before.before.before.before.before.loop-test.true
+returns-2 c = line_whole _ _ _ c.before.before.before.before.before.before.loop.invariant _ c.before.before.before.before.before.loop-test.true
 
 loop-less : tie.Need-loop-smaller invariant-loop decreases-loop
 loop-less c = simp length-set (omega arith)

@@ -4,8 +4,8 @@ use borrow.Author.Rules.{rules}
 use Prim.Native.Nat.{◌-◌, min}
 use mathlib.Core.Path.{◌≡◌, ◌∙◌, ap}
 use Rattle.text_lines.specs.Lines.{held_in}
-use Rattle.text_lines.proofs.Passing.{pair_read, pair-unread}
-use Rattle.text_lines.proofs.Filling.{Filling, filling_none, left-long, right-long, left_in, right-in, pair-filled, stopped, ended}
+use Rattle.text_lines.proofs.Passing.{pair_read, pair_unread}
+use Rattle.text_lines.proofs.Filling.{Filling, filling_none, left_long, right_long, left_in, right_in, pair_filled, stopped, ended}
 use Rattle.text_lines.proofs.fill_pairs.Statement.{statement}
 use Rattle.text_lines.proofs.fill_pairs.Tie as tie
 
@@ -51,13 +51,13 @@ enum_told : tie.Need-enum-told invariant-loop decreases-loop
 enum_told c = search rules
 
 same_length : tie.Need-same-length invariant-loop decreases-loop
-same_length c = let l = bad c in left-long _ _ _ _ _ _ _ (held l.before) _ _ _ _ l.loop.inv
+same_length c = let l = bad c in left_long _ _ _ _ _ _ _ (held l.before) _ _ _ _ l.loop.inv
 
 same-length-2 : tie.Need-same-length-2 invariant-loop decreases-loop
-same-length-2 c = let l = bad c in right-long _ _ _ _ _ _ _ (held l.before) _ _ _ _ l.loop.inv
+same-length-2 c = let l = bad c in right_long _ _ _ _ _ _ _ (held l.before) _ _ _ _ l.loop.inv
 
 returns : tie.Need-returns invariant-loop decreases-loop
-returns c = let l = bad c in stopped _ _ _ _ _ _ _ (held l.before) _ _ _ _ l.loop.inv (search rules) (pair-unread _ _ _ _ c.before.before.pair_line.ensures c.enum_told.given.1)
+returns c = let l = bad c in stopped _ _ _ _ _ _ _ (held l.before) _ _ _ _ l.loop.inv (search rules) (pair_unread _ _ _ _ c.before.before.pair_line.ensures c.enum_told.given.1)
 
 mul-firsts : tie.Need-overflow-mul-firsts invariant-loop decreases-loop
 mul-firsts c = search rules
@@ -69,7 +69,7 @@ mul-seconds : tie.Need-overflow-mul-seconds invariant-loop decreases-loop
 mul-seconds c = search rules
 
 slice-write-seconds : tie.Need-slice-write-seconds invariant-loop decreases-loop
-slice-write-seconds c = let l = good c in right-in _ _ _ _ _ _ _ (held l.before) _ _ _ _ l.loop.inv (search rules)
+slice-write-seconds c = let l = good c in right_in _ _ _ _ _ _ _ (held l.before) _ _ _ _ l.loop.inv (search rules)
 
 add-i : tie.Need-overflow-add-i invariant-loop decreases-loop
 add-i c = search rules
@@ -78,13 +78,13 @@ loop-less : tie.Need-loop-smaller invariant-loop decreases-loop
 loop-less c = search rules
 
 loop-again : tie.Need-loop-preserved invariant-loop decreases-loop
-loop-again c = let l = good c in pair-filled _ _ _ _ _ _ _ (held l.before) _ _ _ _ l.loop.inv (search rules) _ _ _ (pair_read _ _ _ _ c.before.before.before.pair_line.ensures _ _ _ c.before.first.given.1)
+loop-again c = let l = good c in pair_filled _ _ _ _ _ _ _ (held l.before) _ _ _ _ l.loop.inv (search rules) _ _ _ (pair_read _ _ _ _ c.before.before.before.pair_line.ensures _ _ _ c.before.first.given.1)
 
 same-length-3 : tie.Need-same-length-3 invariant-loop decreases-loop
-same-length-3 c = let l = c.before in left-long _ _ _ _ _ _ _ (held l.before) _ _ _ _ l.loop.invariant
+same-length-3 c = let l = c.before in left_long _ _ _ _ _ _ _ (held l.before) _ _ _ _ l.loop.invariant
 
 same-length-4 : tie.Need-same-length-4 invariant-loop decreases-loop
-same-length-4 c = let l = c.before in right-long _ _ _ _ _ _ _ (held l.before) _ _ _ _ l.loop.invariant
+same-length-4 c = let l = c.before in right_long _ _ _ _ _ _ _ (held l.before) _ _ _ _ l.loop.invariant
 
 returns-2 : tie.Need-returns-2 invariant-loop decreases-loop
 returns-2 c = let l = c.before in ended _ _ _ _ _ _ _ (held l.before) _ _ _ _ l.loop.invariant c.loop-test.false

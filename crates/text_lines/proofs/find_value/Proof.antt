@@ -1,7 +1,7 @@
 -- `text_lines::find_value` meets its contract: the line ends at the first LF from here on.
 -- Assumes nothing.
 use native.Mathlib.Omega.{arith}
-use Rattle.text_lines.proofs.Passing.{line_behind_lem, line-missing, line-within, line-unkeyed, line-keyed}
+use Rattle.text_lines.proofs.Passing.{line_behind_lem, line_missing, line_within, line_unkeyed, line_keyed}
 use borrow.Author.Rules.{rules}
 use Rattle.text_lines.proofs.find_value.Statement.{statement}
 use Rattle.text_lines.proofs.find_value.Tie as tie
@@ -32,14 +32,14 @@ returns-2 c =
     let le = c.before.before in
     let e1 = le.before.before in
     let a = e1.before.before.before.args in
-    line-missing a.key.now a.text.now a.at e1.if1.false _ le.line-end.ensures c.enum_told.given.1
+    line_missing a.key.now a.text.now a.at e1.if1.false _ le.line-end.ensures c.enum_told.given.1
 
 add-end : tie.Need-overflow-add-end
 add-end c =
     let le = c.before.before.before in
     let e1 = le.before.before in
     let a = e1.before.before.before.args in
-    omega (arith, line-within a.key.now a.text.now a.at e1.if1.false _ le.line-end.ensures _ c.before.length.given.1)
+    omega (arith, line_within a.key.now a.text.now a.at e1.if1.false _ le.line-end.ensures _ c.before.length.given.1)
 
 sub-starts : tie.Need-overflow-sub-starts
 sub-starts c = search rules
@@ -52,7 +52,7 @@ part-starts-end c =
     let le = c.before.before.before in
     let e1 = le.before.before in
     let a = e1.before.before.before.args in
-    omega (arith, line-within a.key.now a.text.now a.at e1.if1.false _ le.line-end.ensures _ c.before.length.given.1)
+    omega (arith, line_within a.key.now a.text.now a.at e1.if1.false _ le.line-end.ensures _ c.before.length.given.1)
 
 starts-requires : tie.Need-starts-requires
 starts-requires c κs = search rules
@@ -63,7 +63,7 @@ add-t18 c =
     let le = c3.before.before.before in
     let e1 = le.before.before in
     let a = e1.before.before.before.args in
-    let v = line-keyed a.key.now a.text.now a.at e1.if1.false _ le.line-end.ensures _ c3.before.length.given.1 _ c.before.starts.ensures
+    let v = line_keyed a.key.now a.text.now a.at e1.if1.false _ le.line-end.ensures _ c3.before.length.given.1 _ c.before.starts.ensures
     c.if2.true in omega (arith, v.ordered, v.within)
 
 returns-3 : tie.Need-returns-3
@@ -72,7 +72,7 @@ returns-3 c =
     let le = c3.before.before.before in
     let e1 = le.before.before in
     let a = e1.before.before.before.args in
-    line-keyed a.key.now a.text.now a.at e1.if1.false _ le.line-end.ensures _ c3.before.length.given.1 _ c.before.starts.ensures c.if2.true
+    line_keyed a.key.now a.text.now a.at e1.if1.false _ le.line-end.ensures _ c3.before.length.given.1 _ c.before.starts.ensures c.if2.true
 
 returns-4 : tie.Need-returns-4
 returns-4 c =
@@ -80,7 +80,7 @@ returns-4 c =
     let le = c3.before.before.before in
     let e1 = le.before.before in
     let a = e1.before.before.before.args in
-    line-unkeyed a.key.now a.text.now a.at e1.if1.false _ le.line-end.ensures _ c3.before.length.given.1 _ c.before.starts.ensures c.if2.false
+    line_unkeyed a.key.now a.text.now a.at e1.if1.false _ le.line-end.ensures _ c3.before.length.given.1 _ c.before.starts.ensures c.if2.false
 
 pub find-value-spec : {M : Type 1} → statement M
 find-value-spec =

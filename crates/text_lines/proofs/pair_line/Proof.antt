@@ -1,7 +1,7 @@
 -- `text_lines::pair_line` meets its contract: behind the key stands a pair of numbers, or not.
 -- Assumes nothing.
 use native.Mathlib.Omega.{arith}
-use Rattle.text_lines.proofs.Passing.{unkeyed, value-at, unkeyed-pair, pair-line-bad, pair-line-good}
+use Rattle.text_lines.proofs.Passing.{unkeyed, value_at, unkeyed_pair, pair_line_bad, pair_line_good}
 use borrow.Author.Rules.{rules}
 use Rattle.text_lines.proofs.pair_line.Statement.{statement}
 use Rattle.text_lines.proofs.pair_line.Tie as tie
@@ -16,16 +16,16 @@ enum_told : tie.Need-enum-told
 enum_told c = search rules
 
 returns : tie.Need-returns
-returns c = unkeyed-pair _ _ (unkeyed _ _ _ _ c.before.before.find-value.ensures c.enum_told.given.1)
+returns c = unkeyed_pair _ _ (unkeyed _ _ _ _ c.before.before.find-value.ensures c.enum_told.given.1)
 
 sub-read-pair : tie.Need-overflow-sub-read-pair
-sub-read-pair c = (value-at _ _ _ _ c.before.before.before.find-value.ensures _ _ c.before.from.given.1).ordered
+sub-read-pair c = (value_at _ _ _ _ c.before.before.before.find-value.ensures _ _ c.before.from.given.1).ordered
 
 part-read-pair-start : tie.Need-slice-bounds-read-pair-start
-part-read-pair-start c = (value-at _ _ _ _ c.before.before.before.find-value.ensures _ _ c.before.from.given.1).ordered
+part-read-pair-start c = (value_at _ _ _ _ c.before.before.before.find-value.ensures _ _ c.before.from.given.1).ordered
 
 part-read-pair-end : tie.Need-slice-bounds-read-pair-end
-part-read-pair-end c = let v = value-at _ _ _ _ c.before.before.before.find-value.ensures _ _ c.before.from.given.1 in omega (arith, v.within)
+part-read-pair-end c = let v = value_at _ _ _ _ c.before.before.before.find-value.ensures _ _ c.before.from.given.1 in omega (arith, v.within)
 
 read-pair-requires : tie.Need-read-pair-requires
 read-pair-requires c κs = search rules
@@ -44,17 +44,17 @@ returns-2 : tie.Need-returns-2
 returns-2 c =
     let rp = c.before.before in
     let f = rp.before.before.before in
-    pair-line-bad _ _ _ _ f.before.before.find-value.ensures _ _ f.from.given.1 _ rp.read-pair.ensures c.enum-told2.given.1
+    pair_line_bad _ _ _ _ f.before.before.find-value.ensures _ _ f.from.given.1 _ rp.read-pair.ensures c.enum-told2.given.1
 
 add-t11 : tie.Need-overflow-add-t11
 add-t11 c =
     let f = at_from c in
-    let v = value-at _ _ _ _ f.before.before.find-value.ensures _ _ f.from.given.1 in omega (arith, v.within)
+    let v = value_at _ _ _ _ f.before.before.find-value.ensures _ _ f.from.given.1 in omega (arith, v.within)
 
 returns-3 : tie.Need-returns-3
 returns-3 c =
     let f = at_from c in
-    pair-line-good _ _ _ _ f.before.before.find-value.ensures _ _ f.from.given.1 _ c.before.before.before.read-pair.ensures _ _ c.before.first.given.1
+    pair_line_good _ _ _ _ f.before.before.find-value.ensures _ _ f.from.given.1 _ c.before.before.before.read-pair.ensures _ _ c.before.first.given.1
 
 pub pair-line-spec : {M : Type 1} → statement M
 pair-line-spec =

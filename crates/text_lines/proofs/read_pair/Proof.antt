@@ -1,7 +1,7 @@
 use mathlib.Core.Path.{sym}
 use lib.Seq.{length-take-le}
 use native.Mathlib.Omega.{arith}
-use Rattle.text_lines.proofs.Passing.{no-comma, comma-at, left-bad, right-bad, pair_is}
+use Rattle.text_lines.proofs.Passing.{no_comma, comma_at_lem, left_bad, right_bad, pair_is}
 use borrow.Author.Rules.{rules}
 use Rattle.text_lines.proofs.read_pair.Statement.{statement}
 use Rattle.text_lines.proofs.read_pair.Tie as tie
@@ -19,10 +19,10 @@ enum_told : tie.Need-enum-told
 enum_told c = search rules
 
 returns : tie.Need-returns
-returns c = no-comma _ _ c.before.before.find.ensures c.enum_told.given.1
+returns c = no_comma _ _ c.before.before.find.ensures c.enum_told.given.1
 
 slice-aggregate-read-number : tie.Need-slice-aggregate-read-number
-slice-aggregate-read-number c = let f = comma-at _ _ c.before.before.before.before.find.ensures _ c.before.before.length.given.1 in sym (length-take-le _ _ (omega (arith, f.within)))
+slice-aggregate-read-number c = let f = comma_at_lem _ _ c.before.before.before.before.find.ensures _ c.before.before.length.given.1 in sym (length-take-le _ _ (omega (arith, f.within)))
 
 read-number-requires : tie.Need-read-number-requires
 read-number-requires c κs = search rules
@@ -41,22 +41,22 @@ returns-2 : tie.Need-returns-2
 returns-2 c =
     let rn = c.before.before in
     let l = rn.before.before.before in
-    left-bad _ _ l.before.before.find.ensures _ l.length.given.1 _ rn.read_number.ensures c.enum-told2.given.1
+    left_bad _ _ l.before.before.find.ensures _ l.length.given.1 _ rn.read_number.ensures c.enum-told2.given.1
 
 add-from : tie.Need-overflow-add-from
 add-from c =
     let l = at_length c in
-    let f = comma-at _ _ l.before.before.find.ensures _ l.length.given.1 in omega (arith, f.within)
+    let f = comma_at_lem _ _ l.before.before.find.ensures _ l.length.given.1 in omega (arith, f.within)
 
 sub-read-number : tie.Need-overflow-sub-read-number
 sub-read-number c =
     let l = at_length c in
-    let f = comma-at _ _ l.before.before.find.ensures _ l.length.given.1 in omega (arith, f.within)
+    let f = comma_at_lem _ _ l.before.before.find.ensures _ l.length.given.1 in omega (arith, f.within)
 
 part-read-number-start : tie.Need-slice-bounds-read-number-start
 part-read-number-start c =
     let l = at_length c in
-    let f = comma-at _ _ l.before.before.find.ensures _ l.length.given.1 in omega (arith, f.within)
+    let f = comma_at_lem _ _ l.before.before.find.ensures _ l.length.given.1 in omega (arith, f.within)
 
 part-read-number-end : tie.Need-slice-bounds-read-number-end
 part-read-number-end c = search rules
@@ -75,7 +75,7 @@ returns-3 c =
     let c4 = c.before.before.before.before in
     let c8 = c4.before.before.before.before in
     let c12 = c8.before.before.before.before in
-    right-bad _ _ c12.find.ensures _ c8.before.before.length.given.1 c4.before.before.before.read_number.result
+    right_bad _ _ c12.find.ensures _ c8.before.before.length.given.1 c4.before.before.before.read_number.result
     c4.before.before.before.read_number.ensures _ c.before.before.read-number2.ensures c.enum-told3.given.1
 
 returns-4 : tie.Need-returns-4

@@ -3,7 +3,7 @@
 use borrow.Author.Rules.{rules}
 use Prim.Native.Nat.{◌-◌}
 use Rattle.text_lines.specs.Lines.{is_triple_line}
-use Rattle.text_lines.proofs.Passing.{LinesSeen, lines_none, line-bad-here, line-seen, lines_passed, triple-read, triple-unread}
+use Rattle.text_lines.proofs.Passing.{LinesSeen, lines_none, line_bad_here, line_seen, lines_passed, triple_read, triple_unread}
 use Rattle.text_lines.proofs.triple_lines.Statement.{statement}
 use Rattle.text_lines.proofs.triple_lines.Tie as tie
 
@@ -32,7 +32,7 @@ add-t10 : tie.Need-overflow-add-t10 invariant-loop decreases-loop
 add-t10 c = search rules
 
 returns : tie.Need-returns invariant-loop decreases-loop
-returns c = line-bad-here _ _ _ _ _ _ c.before.before.before.before.loop.invariant (search rules) (triple-unread _ _ _ _ c.before.before.triple-line.ensures c.enum_told.given.1)
+returns c = line_bad_here _ _ _ _ _ _ c.before.before.before.before.loop.invariant (search rules) (triple_unread _ _ _ _ c.before.before.triple-line.ensures c.enum_told.given.1)
 
 add-i : tie.Need-overflow-add-i invariant-loop decreases-loop
 add-i c = search rules
@@ -41,7 +41,7 @@ loop-less : tie.Need-loop-smaller invariant-loop decreases-loop
 loop-less c = search rules
 
 loop-again : tie.Need-loop-preserved invariant-loop decreases-loop
-loop-again c = line-seen _ _ _ _ _ _ c.before.before.before.before.before.loop.invariant (search rules) _ (triple-read _ _ _ _ c.before.before.before.triple-line.ensures _ _ _ _ c.before.after.given.1).passed
+loop-again c = line_seen _ _ _ _ _ _ c.before.before.before.before.before.loop.invariant (search rules) _ (triple_read _ _ _ _ c.before.before.before.triple-line.ensures _ _ _ _ c.before.after.given.1).passed
 
 returns-2 : tie.Need-returns-2 invariant-loop decreases-loop
 returns-2 c = lines_passed _ _ _ _ _ _ c.before.loop.invariant c.loop-test.false

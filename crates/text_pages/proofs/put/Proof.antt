@@ -1,4 +1,4 @@
-use Rattle.text_pages.proofs.Pages.{put-none, room_left_lem, Putting, putting_none, putting-long, byte_put, text-put}
+use Rattle.text_pages.proofs.Pages.{put_none, room_left_lem, Putting, putting_none, putting_long, byte_put, text_put}
 use borrow.Author.Rules.{rules}
 use Prim.Native.Nat.{◌+◌, ◌-◌, ◌≤◌}
 use native.Mathlib.Omega.{arith}
@@ -19,7 +19,7 @@ lacks-room-requires : tie.Need-lacks-room-requires invariant-loop decreases-loop
 lacks-room-requires c κs = search rules
 
 returns : tie.Need-returns invariant-loop decreases-loop
-returns c = put-none c.before.lacks-room.ensures c.if1.true
+returns c = put_none c.before.lacks-room.ensures c.if1.true
 
 loop-holds : tie.Need-loop-init invariant-loop decreases-loop
 loop-holds c = putting_none _ _ _
@@ -36,7 +36,7 @@ add-page c =
 slice-write-page : tie.Need-slice-write-page invariant-loop decreases-loop
 slice-write-page c =
     let r = (room_left_lem _ _ c.before.before.before.before.lacks-room.ensures c.before.before.before.if1.false) in
-    let h = putting-long _ _ _ r _ _ c.before.before.loop.invariant in omega (arith, h)
+    let h = putting_long _ _ _ r _ _ c.before.before.loop.invariant in omega (arith, h)
 
 add-i : tie.Need-overflow-add-i invariant-loop decreases-loop
 add-i c = search rules
@@ -54,10 +54,10 @@ add-result c =
     omega (arith, c.before.before.before.before.before.before.well-formed)
 
 same_length : tie.Need-same-length invariant-loop decreases-loop
-same_length c = putting-long _ _ _ (room_left_lem _ _ c.before.before.before.lacks-room.ensures c.before.before.if1.false) _ _ c.before.loop.invariant
+same_length c = putting_long _ _ _ (room_left_lem _ _ c.before.before.before.lacks-room.ensures c.before.before.if1.false) _ _ c.before.loop.invariant
 
 returns-2 : tie.Need-returns-2 invariant-loop decreases-loop
-returns-2 c = text-put _ _ _ (room_left_lem _ _ c.before.before.before.lacks-room.ensures c.before.before.if1.false) _ _ c.before.loop.invariant c.loop-test.false
+returns-2 c = text_put _ _ _ (room_left_lem _ _ c.before.before.before.lacks-room.ensures c.before.before.if1.false) _ _ c.before.loop.invariant c.loop-test.false
 
 pub put_spec : {M : Type 1} → statement M
 put_spec =

@@ -1,6 +1,6 @@
 -- `text_pages::put_number` meets its contract: the fewest digits that hold the number are its text.
 -- Assumes nothing.
-use Rattle.text_pages.proofs.Pages.{put-none, room_left_lem, put_number_lem}
+use Rattle.text_pages.proofs.Pages.{put_none, room_left_lem, put_number_lem}
 use borrow.Author.Rules.{rules}
 use Rattle.text_pages.proofs.put_number.Statement.{statement}
 use Rattle.text_pages.proofs.put_number.Tie as tie
@@ -9,7 +9,7 @@ lacks-room-requires : tie.Need-lacks-room-requires
 lacks-room-requires c κs = search rules
 
 returns : tie.Need-returns
-returns c = put-none c.before.lacks-room.ensures c.if1.true
+returns c = put_none c.before.lacks-room.ensures c.if1.true
 
 decimal-requires : tie.Need-decimal-requires
 decimal-requires c κs = search rules

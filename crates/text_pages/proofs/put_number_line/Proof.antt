@@ -2,7 +2,7 @@
 -- Assumes nothing.
 use native.Mathlib.Omega.{arith}
 use mathlib.Core.Path.{◌∙◌}
-use Rattle.text_pages.proofs.Pages.{put-none, room_left_lem, put_three}
+use Rattle.text_pages.proofs.Pages.{put_none, room_left_lem, put_three}
 use borrow.Author.Rules.{rules}
 use Rattle.text_pages.proofs.put_number_line.Statement.{statement}
 use Rattle.text_pages.proofs.put_number_line.Tie as tie
@@ -14,7 +14,7 @@ lacks-room-requires : tie.Need-lacks-room-requires
 lacks-room-requires c κs = search rules
 
 returns : tie.Need-returns
-returns c = put-none c.before.lacks-room.ensures c.if1.true
+returns c = put_none c.before.lacks-room.ensures c.if1.true
 
 put-requires : tie.Need-put-requires
 put-requires c κs = search rules

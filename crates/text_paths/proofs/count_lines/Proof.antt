@@ -1,7 +1,7 @@
 -- `text_paths::count_lines` meets its contract: the lines counted and those of what is left are the text's.
 -- Assumes nothing.
 use borrow.Author.Rules.{rules}
-use Rattle.text_paths.proofs.Asked.{LinesLeft, lines_uncounted, lines-counted, lines-open, lines-ended, lines-whole}
+use Rattle.text_paths.proofs.Asked.{LinesLeft, lines_uncounted, lines_counted, lines_open, lines_ended, lines_whole}
 use Prim.Native.Nat.{◌-◌}
 use native.Mathlib.Omega.{arith}
 use lib.ListN.{length}
@@ -30,16 +30,16 @@ loop-less : tie.Need-loop-smaller invariant-loop decreases-loop
 loop-less c = search rules
 
 loop-again : tie.Need-loop-preserved invariant-loop decreases-loop
-loop-again c = let al = c.before.before.before in lines-counted _ _ _ _ al.loop.invariant (search rules) _ c.counted.ensures
+loop-again c = let al = c.before.before.before in lines_counted _ _ _ _ al.loop.invariant (search rules) _ c.counted.ensures
 
 add-result : tie.Need-overflow-add-result invariant-loop decreases-loop
-add-result c = let al = c.before.before in omega (arith, lines-open _ _ _ _ al.loop.invariant c.if1.true, al.loop.invariant.within)
+add-result c = let al = c.before.before in omega (arith, lines_open _ _ _ _ al.loop.invariant c.if1.true, al.loop.invariant.within)
 
 returns : tie.Need-returns invariant-loop decreases-loop
-returns c = let al = c.before.before in lines-ended _ _ _ _ al.loop.invariant c.if1.true c.before.loop-test.false
+returns c = let al = c.before.before in lines_ended _ _ _ _ al.loop.invariant c.if1.true c.before.loop-test.false
 
 returns-2 : tie.Need-returns-2 invariant-loop decreases-loop
-returns-2 c = let al = c.before.before in lines-whole _ _ _ _ al.loop.invariant c.if1.false c.before.loop-test.false
+returns-2 c = let al = c.before.before in lines_whole _ _ _ _ al.loop.invariant c.if1.false c.before.loop-test.false
 
 pub count-lines-spec : {M : Type 1} → statement M
 count-lines-spec =

@@ -5,8 +5,8 @@ use Prim.Native.Nat.{◌-◌, min}
 use native.Mathlib.Omega.{arith}
 use mathlib.Core.Path.{◌≡◌, ◌∙◌, ap}
 use Rattle.text_lines.specs.Lines.{held_in}
-use Rattle.text_paths.proofs.Asked.{path-read, path-unread}
-use Rattle.text_paths.proofs.Positions.{PathsFilling, paths-none, starts-long, ends-long, starts-in, ends-in, path-filled, paths-stopped, paths-ended}
+use Rattle.text_paths.proofs.Asked.{path_read, path_unread}
+use Rattle.text_paths.proofs.Positions.{PathsFilling, paths_none, starts_long, ends_long, starts_in, ends_in, path_filled, paths_stopped, paths_ended}
 use Rattle.text_paths.proofs.fill_paths.Statement.{statement}
 use Rattle.text_paths.proofs.fill_paths.Tie as tie
 
@@ -37,7 +37,7 @@ abbrev bad : tie.After-enum-told invariant-loop decreases-loop → tie.At-loop i
 bad c = c.before.before.before.before
 
 loop-holds : tie.Need-loop-init invariant-loop decreases-loop
-loop-holds c = paths-none _ _ _ _ _ (held c)
+loop-holds c = paths_none _ _ _ _ _ (held c)
 
 path-line-requires : tie.Need-path-line-requires invariant-loop decreases-loop
 path-line-requires c κs = search rules
@@ -49,28 +49,28 @@ enum_told : tie.Need-enum-told invariant-loop decreases-loop
 enum_told c = search rules
 
 same_length : tie.Need-same-length invariant-loop decreases-loop
-same_length c = let l = bad c in starts-long _ _ _ _ _ (held l.before) _ _ _ _ l.loop.inv
+same_length c = let l = bad c in starts_long _ _ _ _ _ (held l.before) _ _ _ _ l.loop.inv
 
 same-length-2 : tie.Need-same-length-2 invariant-loop decreases-loop
-same-length-2 c = let l = bad c in ends-long _ _ _ _ _ (held l.before) _ _ _ _ l.loop.inv
+same-length-2 c = let l = bad c in ends_long _ _ _ _ _ (held l.before) _ _ _ _ l.loop.inv
 
 returns : tie.Need-returns invariant-loop decreases-loop
-returns c = let l = bad c in paths-stopped _ _ _ _ _ (held l.before) _ _ _ _ l.loop.inv (search rules) (path-unread _ _ _ c.before.before.path-line.ensures c.enum_told.given.1)
+returns c = let l = bad c in paths_stopped _ _ _ _ _ (held l.before) _ _ _ _ l.loop.inv (search rules) (path_unread _ _ _ c.before.before.path-line.ensures c.enum_told.given.1)
 
 mul-starts : tie.Need-overflow-mul-starts invariant-loop decreases-loop
 mul-starts c = search rules
 
 slice-write-starts : tie.Need-slice-write-starts invariant-loop decreases-loop
-slice-write-starts c = let l = good c in starts-in _ _ _ _ _ (held l.before) _ _ _ _ l.loop.inv (search rules)
+slice-write-starts c = let l = good c in starts_in _ _ _ _ _ (held l.before) _ _ _ _ l.loop.inv (search rules)
 
 mul-ends : tie.Need-overflow-mul-ends invariant-loop decreases-loop
 mul-ends c = search rules
 
 slice-write-ends : tie.Need-slice-write-ends invariant-loop decreases-loop
-slice-write-ends c = let l = good c in ends-in _ _ _ _ _ (held l.before) _ _ _ _ l.loop.inv (search rules)
+slice-write-ends c = let l = good c in ends_in _ _ _ _ _ (held l.before) _ _ _ _ l.loop.inv (search rules)
 
 add-here : tie.Need-overflow-add-here invariant-loop decreases-loop
-add-here c = omega (arith, (path-read _ _ _ c.before.before.before.path-line.ensures _ _ c.before.from.given.1).passed.within)
+add-here c = omega (arith, (path_read _ _ _ c.before.before.before.path-line.ensures _ _ c.before.from.given.1).passed.within)
 
 add-i : tie.Need-overflow-add-i invariant-loop decreases-loop
 add-i c = search rules
@@ -79,16 +79,16 @@ loop-less : tie.Need-loop-smaller invariant-loop decreases-loop
 loop-less c = search rules
 
 loop-again : tie.Need-loop-preserved invariant-loop decreases-loop
-loop-again c = let l = good c in path-filled _ _ _ _ _ (held l.before) _ _ _ _ l.loop.inv (search rules) _ _ (path-read _ _ _ c.before.before.before.path-line.ensures _ _ c.before.from.given.1)
+loop-again c = let l = good c in path_filled _ _ _ _ _ (held l.before) _ _ _ _ l.loop.inv (search rules) _ _ (path_read _ _ _ c.before.before.before.path-line.ensures _ _ c.before.from.given.1)
 
 same-length-3 : tie.Need-same-length-3 invariant-loop decreases-loop
-same-length-3 c = let l = c.before in starts-long _ _ _ _ _ (held l.before) _ _ _ _ l.loop.invariant
+same-length-3 c = let l = c.before in starts_long _ _ _ _ _ (held l.before) _ _ _ _ l.loop.invariant
 
 same-length-4 : tie.Need-same-length-4 invariant-loop decreases-loop
-same-length-4 c = let l = c.before in ends-long _ _ _ _ _ (held l.before) _ _ _ _ l.loop.invariant
+same-length-4 c = let l = c.before in ends_long _ _ _ _ _ (held l.before) _ _ _ _ l.loop.invariant
 
 returns-2 : tie.Need-returns-2 invariant-loop decreases-loop
-returns-2 c = let l = c.before in paths-ended _ _ _ _ _ (held l.before) _ _ _ _ l.loop.invariant c.loop-test.false
+returns-2 c = let l = c.before in paths_ended _ _ _ _ _ (held l.before) _ _ _ _ l.loop.invariant c.loop-test.false
 
 pub fill-paths-spec : {M : Type 1} → statement M
 fill-paths-spec =

@@ -4,7 +4,7 @@ use borrow.Author.Rules.{rules}
 use Prim.Native.Nat.{◌-◌}
 use mathlib.Core.Path.{sym, ◌∙◌}
 use lib.ListN.{length}
-use Rattle.text_paths.proofs.Asked.{PathLeft, path_none, path-stray, path-passed, path-done}
+use Rattle.text_paths.proofs.Asked.{PathLeft, path_none, path_stray, path_passed, path_done}
 use Rattle.text_paths.proofs.is_path.Statement.{statement}
 use Rattle.text_paths.proofs.is_path.Tie as tie
 
@@ -24,7 +24,7 @@ is-stray-requires : tie.Need-is-stray-requires invariant-loop decreases-loop
 is-stray-requires c κs = search rules
 
 returns : tie.Need-returns invariant-loop decreases-loop
-returns c = let al = c.before.before.before.before in path-stray _ _ _ al.loop.invariant (search rules) (sym c.before.is-stray.ensures ∙ c.if1.true)
+returns c = let al = c.before.before.before.before in path_stray _ _ _ al.loop.invariant (search rules) (sym c.before.is-stray.ensures ∙ c.if1.true)
 
 add-i : tie.Need-overflow-add-i invariant-loop decreases-loop
 add-i c = search rules
@@ -33,10 +33,10 @@ loop-less : tie.Need-loop-smaller invariant-loop decreases-loop
 loop-less c = search rules
 
 loop-again : tie.Need-loop-preserved invariant-loop decreases-loop
-loop-again c = let al = c.before.before.before.before in path-passed _ _ _ al.loop.invariant (search rules) (sym c.before.is-stray.ensures ∙ c.if1.false)
+loop-again c = let al = c.before.before.before.before in path_passed _ _ _ al.loop.invariant (search rules) (sym c.before.is-stray.ensures ∙ c.if1.false)
 
 returns-2 : tie.Need-returns-2 invariant-loop decreases-loop
-returns-2 c = path-done _ _ _ c.before.loop.invariant c.loop-test.false
+returns-2 c = path_done _ _ _ c.before.loop.invariant c.loop-test.false
 
 pub is-path-spec : {M : Type 1} → statement M
 is-path-spec =

@@ -2,7 +2,7 @@
 -- Assumes nothing.
 use borrow.Author.Rules.{rules}
 use mathlib.Core.Path.{◌∙◌}
-use Rattle.text_paths.proofs.Asked.{list-bad, list_ended}
+use Rattle.text_paths.proofs.Asked.{list_bad, list_ended}
 use Rattle.text_paths.proofs.judge_list.Statement.{statement}
 use Rattle.text_paths.proofs.judge_list.Tie as tie
 
@@ -25,7 +25,7 @@ refuse-if-requires : tie.Need-refuse-if-requires
 refuse-if-requires c κs = search rules
 
 returns : tie.Need-returns
-returns c = let p = c.before.before.before.before in c.refuse-at.ensures ∙ list-bad _ _ p.before.count-lines.ensures _ p.path-lines.ensures _ c.before.before.lines.given.1
+returns c = let p = c.before.before.before.before in c.refuse-at.ensures ∙ list_bad _ _ p.before.count-lines.ensures _ p.path-lines.ensures _ c.before.before.lines.given.1
 
 returns-2 : tie.Need-returns-2
 returns-2 c = let p = c.before.before.before in c.refuse-if.ensures ∙ list_ended _ _ p.before.count-lines.ensures _ p.path-lines.ensures _ c.before.enum_told.given.1

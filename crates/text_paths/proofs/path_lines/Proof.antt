@@ -4,9 +4,9 @@ use borrow.Author.Rules.{rules}
 use Prim.Native.Nat.{◌-◌}
 use native.Mathlib.Omega.{arith}
 use mathlib.Core.Path.{refl}
-use Rattle.text_lines.proofs.Passing.{LinesSeen, lines_none, line-bad-here, line-seen, lines_passed}
+use Rattle.text_lines.proofs.Passing.{LinesSeen, lines_none, line_bad_here, line_seen, lines_passed}
 use Rattle.text_paths.specs.Paths.{is_asked}
-use Rattle.text_paths.proofs.Asked.{path-unread, path-read}
+use Rattle.text_paths.proofs.Asked.{path_unread, path_read}
 use Rattle.text_paths.proofs.path_lines.Statement.{statement}
 use Rattle.text_paths.proofs.path_lines.Tie as tie
 
@@ -35,10 +35,10 @@ wide-requires : tie.Need-wide-requires invariant-loop decreases-loop
 wide-requires c κs = search rules
 
 returns : tie.Need-returns invariant-loop decreases-loop
-returns c = let al = c.before.before.before.before.before in rw c.wide.ensures (line-bad-here _ _ _ _ _ _ al.loop.invariant (search rules) (path-unread _ _ _ c.before.before.before.path-line.ensures c.before.enum_told.given.1))
+returns c = let al = c.before.before.before.before.before in rw c.wide.ensures (line_bad_here _ _ _ _ _ _ al.loop.invariant (search rules) (path_unread _ _ _ c.before.before.before.path-line.ensures c.before.enum_told.given.1))
 
 add-here : tie.Need-overflow-add-here invariant-loop decreases-loop
-add-here c = omega (arith, (path-read _ _ _ c.before.before.before.path-line.ensures _ _ c.before.end.given.1).passed.within)
+add-here c = omega (arith, (path_read _ _ _ c.before.before.before.path-line.ensures _ _ c.before.end.given.1).passed.within)
 
 add-i : tie.Need-overflow-add-i invariant-loop decreases-loop
 add-i c = search rules
@@ -47,7 +47,7 @@ loop-less : tie.Need-loop-smaller invariant-loop decreases-loop
 loop-less c = search rules
 
 loop-again : tie.Need-loop-preserved invariant-loop decreases-loop
-loop-again c = let al = c.before.before.before.before.before in line-seen _ _ _ _ _ _ al.loop.invariant (search rules) _ (path-read _ _ _ c.before.before.before.path-line.ensures _ _ c.before.end.given.1).passed
+loop-again c = let al = c.before.before.before.before.before in line_seen _ _ _ _ _ _ al.loop.invariant (search rules) _ (path_read _ _ _ c.before.before.before.path-line.ensures _ _ c.before.end.given.1).passed
 
 returns-2 : tie.Need-returns-2 invariant-loop decreases-loop
 returns-2 c = lines_passed _ _ _ _ _ _ c.before.loop.invariant c.loop-test.false

@@ -3,7 +3,7 @@
 use borrow.Author.Rules.{rules}
 use mathlib.Core.Path.{refl, sym, ◌∙◌}
 use borrow.Author.Tests.{not-true, not-false}
-use Rattle.text_references.proofs.Digits.{char_most, utf8-none, utf8-one, utf8-two, utf8-long}
+use Rattle.text_references.proofs.Digits.{char_most, utf8_none, utf8_one, utf8_two, utf8_long}
 use Rattle.text_references.proofs.encode.Statement.{statement}
 use Rattle.text_references.proofs.encode.Tie as tie
 
@@ -11,13 +11,13 @@ is-character-requires : tie.Need-is-character-requires
 is-character-requires c κs = search rules
 
 returns : tie.Need-returns
-returns c = rw (← utf8-none c.before.before.args.number (sym c.before.is-character.ensures ∙ not-true _ c.if1.true)) (record { size = refl; fields = refl })
+returns c = rw (← utf8_none c.before.before.args.number (sym c.before.is-character.ensures ∙ not-true _ c.if1.true)) (record { size = refl; fields = refl })
 
 narrow-requires : tie.Need-narrow-requires
 narrow-requires c κs = search rules
 
 returns-2 : tie.Need-returns-2
-returns-2 c = rw (c.narrow.ensures, ← utf8-one c.before.before.before.before.args.number (sym c.before.before.before.is-character.ensures ∙ not-false _ c.before.before.if1.false) c.before.if2.true) (record { size = refl; fields = refl })
+returns-2 c = rw (c.narrow.ensures, ← utf8_one c.before.before.before.before.args.number (sym c.before.before.before.is-character.ensures ∙ not-false _ c.before.before.if1.false) c.before.if2.true) (record { size = refl; fields = refl })
 
 later-byte-requires : tie.Need-later-byte-requires
 later-byte-requires c κs = search rules
@@ -29,7 +29,7 @@ narrow-requires-2 : tie.Need-narrow-requires-2
 narrow-requires-2 c κs = search rules
 
 returns-3 : tie.Need-returns-3
-returns-3 c = rw (c.narrow2.ensures, c.before.before.later-byte.ensures, ← utf8-two c.before.before.before.before.before.before.args.number (sym c.before.before.before.before.before.is-character.ensures ∙ not-false _ c.before.before.before.before.if1.false) c.before.before.before.if2.false c.before.if3.true) (record { size = refl; fields = refl })
+returns-3 c = rw (c.narrow2.ensures, c.before.before.later-byte.ensures, ← utf8_two c.before.before.before.before.before.before.args.number (sym c.before.before.before.before.before.is-character.ensures ∙ not-false _ c.before.before.before.before.if1.false) c.before.before.before.if2.false c.before.if3.true) (record { size = refl; fields = refl })
 
 later-byte-requires-2 : tie.Need-later-byte-requires-2
 later-byte-requires-2 c κs = search rules
@@ -38,7 +38,7 @@ encode-long-requires : tie.Need-encode-long-requires
 encode-long-requires c κs = char_most _ (sym c.before.before.before.before.before.is-character.ensures ∙ not-false _ c.before.before.before.before.if1.false)
 
 returns-4 : tie.Need-returns-4
-returns-4 c = rw (← utf8-long c.before.before.before.before.before.before.before.args.number (sym c.before.before.before.before.before.before.is-character.ensures ∙ not-false _ c.before.before.before.before.before.if1.false) c.before.before.if3.false, ← c.before.later-byte2.ensures, ← c.before.before.before.later-byte.ensures) c.encode-long.ensures
+returns-4 c = rw (← utf8_long c.before.before.before.before.before.before.before.args.number (sym c.before.before.before.before.before.before.is-character.ensures ∙ not-false _ c.before.before.before.before.before.if1.false) c.before.before.if3.false, ← c.before.later-byte2.ensures, ← c.before.before.before.later-byte.ensures) c.encode-long.ensures
 
 pub encode-spec : {M : Type 1} → statement M
 encode-spec =

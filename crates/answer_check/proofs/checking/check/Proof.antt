@@ -1,7 +1,7 @@
 -- `answer_check::checking::check` meets its contract: a refusal leaves the row, and else the verdict is handed out. Assumes nothing.
 use mathlib.Core.Path.{sym}
 use lib.Seq.{length-take-le}
-use Rattle.answer_check.proofs.Checked.{answer_refused, answer-handed}
+use Rattle.answer_check.proofs.Checked.{answer_refused, answer_handed}
 use borrow.Author.Rules.{rules}
 use Rattle.answer_check.proofs.checking.check.Statement.{statement}
 use Rattle.answer_check.proofs.checking.check.Tie as tie
@@ -51,7 +51,7 @@ returns-2 c =
     let h = c.before.before in
     let e = h.before.before.before.before in
     let k = paged e.before in
-    answer-handed _ (start k).args.plan.now _ k.checked.result _ k.checked.ensures _ e.before.refused.ensures e.if1.false _ _ _ h.hand-out.ensures
+    answer_handed _ (start k).args.plan.now _ k.checked.result _ k.checked.ensures _ e.before.refused.ensures e.if1.false _ _ _ h.hand-out.ensures
 
 pub check-spec : {M : Type 1} → statement M
 check-spec =

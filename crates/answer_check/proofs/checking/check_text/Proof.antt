@@ -1,7 +1,7 @@
 -- `answer_check::checking::check_text` meets its contract: the two lines of a refusal, else the verdict. Assumes nothing.
 use mathlib.Core.Path.{sym}
 use lib.Seq.{length-take-le}
-use Rattle.answer_check.proofs.Checked.{text-refused, text-handed}
+use Rattle.answer_check.proofs.Checked.{text_refused, text_handed}
 use borrow.Author.Rules.{rules}
 use Rattle.answer_check.proofs.checking.check_text.Statement.{statement}
 use Rattle.answer_check.proofs.checking.check_text.Tie as tie
@@ -33,7 +33,7 @@ returns c =
     let w = c.before.before in
     let t = w.before.before in
     let k = paged t.before in
-    text-refused _ (start k).args.plan.now _ k.checked.result _ k.checked.ensures _ t.before.refused.ensures t.if1.true _ w.write-refusal.result _ w.write-refusal.ensures
+    text_refused _ (start k).args.plan.now _ k.checked.result _ k.checked.ensures _ t.before.refused.ensures t.if1.true _ w.write-refusal.result _ w.write-refusal.ensures
 
 array-share-prefix-text : tie.Need-array-share-prefix-text
 array-share-prefix-text c = (paged c.before.before).checked.ensures.within
@@ -55,7 +55,7 @@ returns-2 c =
     let h = c.before.before in
     let e = h.before.before.before.before in
     let k = paged e.before in
-    text-handed _ (start k).args.plan.now _ k.checked.result _ k.checked.ensures _ e.before.refused.ensures e.if1.false _ h.hand-out.result _ h.hand-out.ensures
+    text_handed _ (start k).args.plan.now _ k.checked.result _ k.checked.ensures _ e.before.refused.ensures e.if1.false _ h.hand-out.result _ h.hand-out.ensures
 
 pub check-text-spec : {M : Type 1} → statement M
 check-text-spec =

@@ -1,6 +1,6 @@
 -- `answer_check::checking::checked` meets its contract: the first refusal, or the page of the list; and the room. Assumes nothing.
 use mathlib.Core.Path.{refl}
-use Rattle.answer_check.proofs.Checked.{checked_refused, checkable, checked-page}
+use Rattle.answer_check.proofs.Checked.{checked_refused, checkable, checked_page}
 use borrow.Author.Rules.{rules}
 use Rattle.answer_check.proofs.checking.checked.Statement.{statement}
 use Rattle.answer_check.proofs.checking.checked.Tie as tie
@@ -67,7 +67,7 @@ returns-2 c =
     let l = listing f in
     let x = joining l in
     let p = reading x in
-    checked-page _ (start p).args.plan.now _ p.before.read-run.result p.before.read-run.ensures p.read-plan.result p.read-plan.ensures _ x.first-refusal.ensures _ l.before.before.under.ensures
+    checked_page _ (start p).args.plan.now _ p.before.read-run.result p.before.read-run.ensures p.read-plan.result p.read-plan.ensures _ x.first-refusal.ensures _ l.before.before.under.ensures
     l.list_any.result _ l.list_any.ensures _ f.refused.ensures g.before.if1.false g.list-page.result g.list-page.ensures _ refl refl refl
 
 pub checked-spec : {M : Type 1} → statement M

@@ -1,7 +1,7 @@
 -- `answer_check::checking::list_page` meets its contract: the first entry that breaks a rule, or the three lines and the difference. Assumes nothing.
 use mathlib.Core.Path.{refl, sym}
 use lib.Seq.{length-take-le}
-use Rattle.answer_check.proofs.Checked.{list-unformed, least-below, expected-inside, expected-short, list_formed}
+use Rattle.answer_check.proofs.Checked.{list_unformed, least_below, expected_inside, expected_short, list_formed}
 use borrow.Author.Rules.{rules}
 use Rattle.answer_check.proofs.checking.list_page.Statement.{statement}
 use Rattle.answer_check.proofs.checking.list_page.Tie as tie
@@ -26,7 +26,7 @@ returns : tie.Need-returns
 returns c =
     let f = c.before.before in
     let p = priced f in
-    list-unformed _ _ _ _ _ (start p).pre p.priced.result p.priced.ensures _ f.refused.ensures c.before.if1.true _ c.unformed-page.ensures
+    list_unformed _ _ _ _ _ (start p).pre p.priced.result p.priced.ensures _ f.refused.ensures c.before.if1.true _ c.unformed-page.ensures
 
 priced-requires-2 : tie.Need-priced-requires-2
 priced-requires-2 c κs = search rules
@@ -45,7 +45,7 @@ array-share-prefix-text : tie.Need-array-share-prefix-text
 array-share-prefix-text c =
     let m = c.before.before in
     let p = priced (tested m) in
-    expected-inside _ _ _ _ _ (start p).pre p.priced.result p.priced.ensures _ (tested m).refused.ensures m.before.before.if1.false m.before.priced2.result m.before.priced2.ensures
+    expected_inside _ _ _ _ _ (start p).pre p.priced.result p.priced.ensures _ (tested m).refused.ensures m.before.before.if1.false m.before.priced2.result m.before.priced2.ensures
     _ (start p).args.run refl refl m.plan-page.result m.plan-page.ensures
 
 slice-aggregate-verdict-page : tie.Need-slice-aggregate-verdict-page
@@ -58,14 +58,14 @@ sub-verdict-page : tie.Need-overflow-sub-verdict-page
 sub-verdict-page c =
     let m = written c.before.before in
     let p = priced (tested m) in
-    least-below _ _ _ _ _ (start p).pre p.priced.result p.priced.ensures _ (tested m).refused.ensures m.before.before.if1.left m.before.priced2.result m.before.priced2.ensures
+    least_below _ _ _ _ _ (start p).pre p.priced.result p.priced.ensures _ (tested m).refused.ensures m.before.before.if1.left m.before.priced2.result m.before.priced2.ensures
 
 verdict-page-requires : tie.Need-verdict-page-requires
 verdict-page-requires c κs =
     let m = written c.before.before in
     let p = priced (tested m) in (
       (start p).pre.short,
-      expected-short _ _ _ _ _ (start p).pre p.priced.result p.priced.ensures _ (tested m).refused.ensures m.before.before.if1.left m.before.priced2.result m.before.priced2.ensures
+      expected_short _ _ _ _ _ (start p).pre p.priced.result p.priced.ensures _ (tested m).refused.ensures m.before.before.if1.left m.before.priced2.result m.before.priced2.ensures
           _ (start p).args.run refl refl m.plan-page.result m.plan-page.ensures,
     )
 

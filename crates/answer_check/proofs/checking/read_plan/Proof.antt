@@ -1,5 +1,5 @@
 -- `answer_check::checking::read_plan` meets its contract: what the reader leaves in its rows. Assumes nothing.
-use Rattle.answer_check.proofs.Formed.{plan-handed}
+use Rattle.answer_check.proofs.Formed.{plan_handed}
 use borrow.Author.Rules.{rules}
 use Rattle.answer_check.proofs.checking.read_plan.Statement.{statement}
 use Rattle.answer_check.proofs.checking.read_plan.Tie as tie
@@ -16,7 +16,7 @@ read-plan-requires c κs = search rules
 returns : tie.Need-returns
 returns c =
     let r = c.before.before.before in
-    plan-handed r.before.before.before.before.args.plan.now _ _ (search rules) (search rules) r.read-plan.result _ _ r.read-plan.ensures
+    plan_handed r.before.before.before.before.args.plan.now _ _ (search rules) (search rules) r.read-plan.result _ _ r.read-plan.ensures
 
 pub read-plan-spec : {M : Type 1} → statement M
 read-plan-spec =

@@ -1,5 +1,5 @@
 -- `answer_check::inputs::check_input` meets its contract: the two texts are answered, or 25. Assumes nothing.
-use Rattle.answer_check.proofs.Framing.{checked-bad, checked-texts}
+use Rattle.answer_check.proofs.Framing.{checked_bad, checked_texts}
 use borrow.Author.Rules.{rules}
 use Rattle.answer_check.proofs.inputs.check_input.Statement.{statement}
 use Rattle.answer_check.proofs.inputs.check_input.Tie as tie
@@ -22,7 +22,7 @@ same_length c = c.before.before.refuse-input.auto.0
 returns : tie.Need-returns
 returns c =
     let t = c.before.before.before.before in
-    checked-bad _ _ t.before.before.frame-input.ensures t.enum_told.given.1 _ _ _ _ c.before.before.refuse-input.ensures
+    checked_bad _ _ t.before.before.frame-input.ensures t.enum_told.given.1 _ _ _ _ c.before.before.refuse-input.ensures
 
 part-requires : tie.Need-part-requires
 part-requires c κs = search rules
@@ -51,7 +51,7 @@ returns-2 c =
     let p = c.before.before.before.before in
     let t = second p in
     let k = found t in
-    checked-texts _ _ k.before.before.frame-input.ensures _ _ k.from.given.1 _ _ t.before.part.ensures.0 t.part2.ensures.0 _ _ _ _ _ p.check-text.ensures
+    checked_texts _ _ k.before.before.frame-input.ensures _ _ k.from.given.1 _ _ t.before.part.ensures.0 t.part2.ensures.0 _ _ _ _ _ p.check-text.ensures
 
 pub check-input-spec : {M : Type 1} → statement M
 check-input-spec =

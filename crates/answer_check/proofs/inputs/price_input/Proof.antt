@@ -1,6 +1,6 @@
 -- `answer_check::inputs::price_input` meets its contract: the two texts are answered, or 25. Assumes nothing.
 use Rattle.answer_check.specs.Pricing.{SheetPriced}
-use Rattle.answer_check.proofs.Framing.{framed_bad, framed-texts}
+use Rattle.answer_check.proofs.Framing.{framed_bad, framed_texts}
 use borrow.Author.Rules.{rules}
 use Rattle.answer_check.proofs.inputs.price_input.Statement.{statement}
 use Rattle.answer_check.proofs.inputs.price_input.Tie as tie
@@ -41,7 +41,7 @@ returns-2 : tie.Need-returns-2
 returns-2 c =
     let p = c.before.before in
     let k = p.before.before.before.before.before in
-    framed-texts SheetPriced _ _ k.before.before.frame-input.ensures _ _ k.from.given.1 _ _ p.before.before.before.part.ensures.0 p.before.before.part2.ensures.0 _ _ _ p.price.ensures
+    framed_texts SheetPriced _ _ k.before.before.frame-input.ensures _ _ k.from.given.1 _ _ p.before.before.before.part.ensures.0 p.before.before.part2.ensures.0 _ _ _ p.price.ensures
 
 pub price-input-spec : {M : Type 1} → statement M
 price-input-spec =

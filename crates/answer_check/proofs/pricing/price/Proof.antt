@@ -1,5 +1,5 @@
 -- `answer_check::pricing::price` meets its contract: the two lines of the first refusal, else the list's plan sheet. Assumes nothing.
-use Rattle.answer_check.proofs.Prices.{price-refused, price-written}
+use Rattle.answer_check.proofs.Prices.{price_refused, price_written}
 use borrow.Author.Rules.{rules}
 use Rattle.answer_check.proofs.pricing.price.Statement.{statement}
 use Rattle.answer_check.proofs.pricing.price.Tie as tie
@@ -35,7 +35,7 @@ returns c =
     let f = w.before.before.before in
     let r = reading f in
     let j = f.before in
-    price-refused _ r.read-run.result r.read-run.ensures (start r).args.list.now _ j.before.read-list.result j.before.read-list.ensures _ j.judged.ensures _ f.refused.ensures w.before.before.if1.true w.write-refusal.result _ w.write-refusal.ensures
+    price_refused _ r.read-run.result r.read-run.ensures (start r).args.list.now _ j.before.read-list.result j.before.read-list.ensures _ j.judged.ensures _ f.refused.ensures w.before.before.if1.true w.write-refusal.result _ w.write-refusal.ensures
 
 write-any-requires : tie.Need-write-any-requires
 write-any-requires c κs = search rules
@@ -49,7 +49,7 @@ returns-2 c =
     let f = w.before.before.before in
     let r = reading f in
     let j = f.before in
-    price-written _ r.read-run.result r.read-run.ensures (start r).args.list.now _ j.before.read-list.result j.before.read-list.ensures _ j.judged.ensures _ f.refused.ensures w.before.before.if1.false w.write-any.result _ w.write-any.ensures
+    price_written _ r.read-run.result r.read-run.ensures (start r).args.list.now _ j.before.read-list.result j.before.read-list.ensures _ j.judged.ensures _ f.refused.ensures w.before.before.if1.false w.write-any.result _ w.write-any.ensures
 
 pub price-spec : {M : Type 1} → statement M
 price-spec =

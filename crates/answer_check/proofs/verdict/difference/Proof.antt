@@ -3,7 +3,7 @@ use Prim.Native.Nat.{◌-◌}
 use mathlib.Core.Logic.{⊎_elim}
 use native.Mathlib.Omega.{arith}
 use lib.ListN.{length}
-use Rattle.answer_check.proofs.Differing.{Differing, differing_none, differs-short, differs-here, same-feed, same-other, differs-end}
+use Rattle.answer_check.proofs.Differing.{Differing, differing_none, differs_short, differs_here, same_feed, same_other, differs_end}
 use borrow.Author.Rules.{rules}
 use Rattle.answer_check.proofs.verdict.difference.Statement.{statement}
 use Rattle.answer_check.proofs.verdict.difference.Tie as tie
@@ -18,7 +18,7 @@ loop-holds : tie.Need-loop-init invariant-loop decreases-loop
 loop-holds c = differing_none _ _
 
 returns : tie.Need-returns invariant-loop decreases-loop
-returns c = differs-short _ _ _ _ _ c.before.before.loop.invariant (omega arith) c.if1.true
+returns c = differs_short _ _ _ _ _ c.before.before.loop.invariant (omega arith) c.if1.true
 
 shared-slice-read-if2 : tie.Need-shared-slice-read-if2 invariant-loop decreases-loop
 shared-slice-read-if2 c = omega arith
@@ -27,7 +27,7 @@ shared-slice-read-if2-2 : tie.Need-shared-slice-read-if2-2 invariant-loop decrea
 shared-slice-read-if2-2 c = omega arith
 
 returns-2 : tie.Need-returns-2 invariant-loop decreases-loop
-returns-2 c = differs-here _ _ _ _ _ c.before.before.before.before.before.loop.invariant (omega arith) (omega arith) c.if2.true
+returns-2 c = differs_here _ _ _ _ _ c.before.before.before.before.before.loop.invariant (omega arith) (omega arith) c.if2.true
 
 shared-slice-read-if3 : tie.Need-shared-slice-read-if3 invariant-loop decreases-loop
 shared-slice-read-if3 c = omega arith
@@ -47,12 +47,12 @@ loop-less c = omega arith
 loop-again : tie.Need-loop-preserved invariant-loop decreases-loop
 loop-again c =
     ⊎_elim
-    (λ w. rw (w.1, w.2) (same-feed _ _ _ _ _ c.before.before.before.before.before.before.before.loop.invariant (omega arith) (omega arith) c.before.before.if2.false w.0.taken))
-    (λ w. rw (w.1, w.2) (same-other _ _ _ _ _ c.before.before.before.before.before.before.before.loop.invariant (omega arith) (omega arith) c.before.before.if2.false w.0.left))
+    (λ w. rw (w.1, w.2) (same_feed _ _ _ _ _ c.before.before.before.before.before.before.before.loop.invariant (omega arith) (omega arith) c.before.before.if2.false w.0.taken))
+    (λ w. rw (w.1, w.2) (same_other _ _ _ _ _ c.before.before.before.before.before.before.before.loop.invariant (omega arith) (omega arith) c.before.before.if2.false w.0.left))
     c.if3.branch
 
 returns-3 : tie.Need-returns-3 invariant-loop decreases-loop
-returns-3 c = differs-end _ _ _ _ _ c.before.loop.invariant c.loop-test.false
+returns-3 c = differs_end _ _ _ _ _ c.before.loop.invariant c.loop-test.false
 
 pub difference-spec : {M : Type 1} → statement M
 difference-spec =

@@ -3,7 +3,7 @@ use Prim.Native.Nat.{◌-◌}
 use native.Mathlib.Omega.{arith}
 use lib.ListN.{length}
 use borrow.Author.Tests.{eq-eqb, ne_eqb}
-use Rattle.text_bytes.proofs.Bytes.{Compared, compared_none, key-differs, key-passed, key-done}
+use Rattle.text_bytes.proofs.Bytes.{Compared, compared_none, key_differs, key_passed, key_done}
 use borrow.Author.Rules.{rules}
 use Rattle.answer_check.proofs.verdict.same_rows.Statement.{statement}
 use Rattle.answer_check.proofs.verdict.same_rows.Tie as tie
@@ -33,7 +33,7 @@ shared-slice-read-if2-2 : tie.Need-shared-slice-read-if2-2 invariant-loop decrea
 shared-slice-read-if2-2 c = omega (arith, c.before.before.before.before.if1.false)
 
 returns-2 : tie.Need-returns-2 invariant-loop decreases-loop
-returns-2 c = simp (eq-eqb _ _ c.before.before.before.before.before.if1.false) (key-differs _ _ _ c.before.before.before.before.loop.invariant (omega (arith, c.before.before.before.before.before.if1.false)) (omega arith) c.if2.true)
+returns-2 c = simp (eq-eqb _ _ c.before.before.before.before.before.if1.false) (key_differs _ _ _ c.before.before.before.before.loop.invariant (omega (arith, c.before.before.before.before.before.if1.false)) (omega arith) c.if2.true)
 
 add-i : tie.Need-overflow-add-i invariant-loop decreases-loop
 add-i c = omega arith
@@ -42,10 +42,10 @@ loop-less : tie.Need-loop-smaller invariant-loop decreases-loop
 loop-less c = omega arith
 
 loop-again : tie.Need-loop-preserved invariant-loop decreases-loop
-loop-again c = key-passed _ _ _ c.before.before.before.before.loop.invariant (omega (arith, c.before.before.before.before.before.if1.false)) (omega arith) c.if2.false
+loop-again c = key_passed _ _ _ c.before.before.before.before.loop.invariant (omega (arith, c.before.before.before.before.before.if1.false)) (omega arith) c.if2.false
 
 returns-3 : tie.Need-returns-3 invariant-loop decreases-loop
-returns-3 c = simp (eq-eqb _ _ c.before.before.if1.false) (key-done _ _ _ c.before.loop.invariant (omega (arith, c.before.before.if1.false)) c.loop-test.false)
+returns-3 c = simp (eq-eqb _ _ c.before.before.if1.false) (key_done _ _ _ c.before.loop.invariant (omega (arith, c.before.before.if1.false)) c.loop-test.false)
 
 pub same-rows-spec : {M : Type 1} → statement M
 same-rows-spec =

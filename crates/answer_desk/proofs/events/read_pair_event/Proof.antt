@@ -1,7 +1,7 @@
 -- `answer_desk::events::read_pair_event` meets its contract: a withdrawal, else a boarding, else neither.
 -- Assumes nothing.
 use Rattle.answer_desk.specs.Events.{withdraw_key, board_key}
-use Rattle.answer_desk.proofs.Reading.{no_pair, withdraw-found, board-found, none_found}
+use Rattle.answer_desk.proofs.Reading.{no_pair, withdraw_found, board_found, none_found}
 use borrow.Author.Rules.{rules}
 use Rattle.answer_desk.proofs.events.read_pair_event.Statement.{statement}
 use Rattle.answer_desk.proofs.events.read_pair_event.Tie as tie
@@ -16,7 +16,7 @@ enum-known-first : tie.Need-enum-known-first
 enum-known-first c = search rules
 
 returns : tie.Need-returns
-returns c = withdraw-found _ _ c.before.before.before.pair_line.ensures _ _ _ c.before.first.given.1
+returns c = withdraw_found _ _ c.before.before.before.pair_line.ensures _ _ _ c.before.first.given.1
 
 enum_told : tie.Need-enum-told
 enum_told c = search rules
@@ -31,7 +31,7 @@ enum-known-first-2 : tie.Need-enum-known-first-2
 enum-known-first-2 c = search rules
 
 returns-2 : tie.Need-returns-2
-returns-2 c = board-found _ (no_pair withdraw_key _ _ c.before.before.before.before.before.before.before.pair_line.ensures c.before.before.before.before.before.enum_told.given.1) _ c.before.before.before.pair-line2.ensures _ _ _ c.before.first2.given.1
+returns-2 c = board_found _ (no_pair withdraw_key _ _ c.before.before.before.before.before.before.before.pair_line.ensures c.before.before.before.before.before.enum_told.given.1) _ c.before.before.before.pair-line2.ensures _ _ _ c.before.first2.given.1
 
 enum-told-2 : tie.Need-enum-told-2
 enum-told-2 c = search rules

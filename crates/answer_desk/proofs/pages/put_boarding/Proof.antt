@@ -2,7 +2,7 @@
 -- Assumes nothing.
 use mathlib.Core.Path.{◌≡◌, ◌∙◌}
 use native.Mathlib.Omega.{arith}
-use Rattle.text_pages.proofs.Pages.{wrote-long}
+use Rattle.text_pages.proofs.Pages.{wrote_long}
 use Rattle.answer_desk.proofs.Leaving.{places_wrote}
 use borrow.Author.Rules.{rules}
 use Rattle.answer_desk.proofs.pages.put_boarding.Statement.{statement}
@@ -31,7 +31,7 @@ put-detours-requires c κs =
     let wide = (at-start ute).requires.1.1 in
     let n-is = ute.up-to-eight.ensures in
     let w = pt.put-top.ensures in
-    (omega (arith, n-is), omega (arith, n-is, w.within, wrote-long w (omega arith)))
+    (omega (arith, n-is), omega (arith, n-is, w.within, wrote_long w (omega arith)))
 
 put-tickets-requires : tie.Need-put-tickets-requires
 put-tickets-requires c κs =
@@ -43,9 +43,9 @@ put-tickets-requires c κs =
     let one = pre.0 in
     let n-is = ute.up-to-eight.ensures in
     let w = pt.put-top.ensures in
-    let long = wrote-long w (omega arith) in
+    let long = wrote_long w (omega arith) in
     let v = pd.put-detours.ensures in
-    (omega arith, omega (arith, n-is, w.within, v.within, wrote-long v (omega (arith, n-is, w.within))))
+    (omega arith, omega (arith, n-is, w.within, v.within, wrote_long v (omega (arith, n-is, w.within))))
 
 put-tickets-requires-2 : tie.Need-put-tickets-requires-2
 put-tickets-requires-2 c κs =
@@ -59,11 +59,11 @@ put-tickets-requires-2 c κs =
     let two = pre.1.0 in
     let n-is = ute.up-to-eight.ensures in
     let w = put_top_lem.put-top.ensures in
-    let long = wrote-long w (omega arith) in
+    let long = wrote_long w (omega arith) in
     let v = pd.put-detours.ensures in
-    let longer = wrote-long v (omega (arith, n-is, w.within)) in
+    let longer = wrote_long v (omega (arith, n-is, w.within)) in
     let u = pt.put-tickets.ensures in
-    (omega arith, omega (arith, n-is, w.within, v.within, u.within, wrote-long u (omega (arith, n-is, w.within, v.within))))
+    (omega arith, omega (arith, n-is, w.within, v.within, u.within, wrote_long u (omega (arith, n-is, w.within, v.within))))
 
 same_length : tie.Need-same-length
 same_length c =

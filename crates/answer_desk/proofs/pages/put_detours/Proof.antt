@@ -6,9 +6,9 @@ use mathlib.Core.Path.{◌≡◌}
 use native.Mathlib.Omega.{arith}
 use lib.ListN.{length, take, drop}
 use Rattle.text_pages.specs.Printing.{pair_lines}
-use Rattle.text_pages.proofs.Pages.{LinesPut, lines_put_none, line_put, lines-put}
+use Rattle.text_pages.proofs.Pages.{LinesPut, lines_put_none, line_put, lines_put}
 use Rattle.sheet_writer.specs.PlanSheet.{detour_key}
-use Rattle.answer_desk.proofs.Looking.{detours-left, detours-over}
+use Rattle.answer_desk.proofs.Looking.{detours_left, detours_over}
 use Rattle.answer_desk.proofs.pages.put_detours.Statement.{statement}
 use Rattle.answer_desk.proofs.pages.put_detours.Tie as tie
 
@@ -58,7 +58,7 @@ loop-again c =
     let il = ppl.before.before.before in
     let s = il.before.before.before in
     line_put _ _ _ _ _ s.requires.1 _ _ _ _ il.before.loop.invariant (search rules) _ _
-    (detours-left s.args.n s.args.t3 s.args.t4 s.requires.0 (long-froms s) (long-tos s) il.before.loop.i il.loop-test.true) _ (omega arith) _ _
+    (detours_left s.args.n s.args.t3 s.args.t4 s.requires.0 (long-froms s) (long-tos s) il.before.loop.i il.loop-test.true) _ (omega arith) _ _
     ppl.put-pair-line.ensures
 
 same_length : tie.Need-same-length invariant-loop decreases-loop
@@ -66,8 +66,8 @@ same_length c = c.before.loop.invariant.long
 
 returns : tie.Need-returns invariant-loop decreases-loop
 returns c =
-    let s = c.before.before.before in lines-put _ _ _ _ _ s.requires.1 _ _ _ _ c.before.loop.invariant c.loop-test.false
-    (detours-over s.args.n s.args.t3 s.args.t4 s.requires.0 (long-froms s) (long-tos s) c.before.loop.i c.loop-test.false)
+    let s = c.before.before.before in lines_put _ _ _ _ _ s.requires.1 _ _ _ _ c.before.loop.invariant c.loop-test.false
+    (detours_over s.args.n s.args.t3 s.args.t4 s.requires.0 (long-froms s) (long-tos s) c.before.loop.i c.loop-test.false)
 
 pub put-detours-spec : {M : Type 1} → statement M
 put-detours-spec =

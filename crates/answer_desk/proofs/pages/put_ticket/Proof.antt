@@ -2,7 +2,7 @@
 -- Assumes nothing.
 use mathlib.Core.Path.{◌∙◌}
 use native.Mathlib.Omega.{arith}
-use Rattle.text_pages.proofs.Pages.{wrote_on, wrote-within}
+use Rattle.text_pages.proofs.Pages.{wrote_on, wrote_within}
 use borrow.Author.Rules.{rules}
 use Rattle.answer_desk.proofs.pages.put_ticket.Statement.{statement}
 use Rattle.answer_desk.proofs.pages.put_ticket.Tie as tie
@@ -52,7 +52,7 @@ returns c =
     let two = wrote_on one (omega arith) pp.put-pair.ensures in
     let three = wrote_on two (omega arith) p2.put2.ensures in
     let four = wrote_on three (omega arith) pn.put-number.ensures in
-    wrote-within (wrote_on four (omega arith) ptl.put-triple-line.ensures) _ (omega arith)
+    wrote_within (wrote_on four (omega arith) ptl.put-triple-line.ensures) _ (omega arith)
 
 pub put-ticket-spec : {M : Type 1} → statement M
 put-ticket-spec =

@@ -4,9 +4,9 @@ use Prim.Native.Nat.{◌-◌}
 use mathlib.Core.Path.{◌≡◌}
 use native.Mathlib.Omega.{arith}
 use lib.ListN.{length, take, drop}
-use Rattle.text_pages.proofs.Pages.{LinesPut, lines_put_none, line-room, line_wrote, lines-put}
+use Rattle.text_pages.proofs.Pages.{LinesPut, lines_put_none, line_room, line_wrote, lines_put}
 use Rattle.answer_desk.specs.Answers.{closed_lines}
-use Rattle.answer_desk.proofs.Looking.{tickets-left, tickets-over}
+use Rattle.answer_desk.proofs.Looking.{tickets_left, tickets_over}
 use borrow.Author.Rules.{rules}
 use Rattle.answer_desk.proofs.pages.put_tickets.Statement.{statement}
 use Rattle.answer_desk.proofs.pages.put_tickets.Tie as tie
@@ -35,7 +35,7 @@ array-copy-out-t c = omega (arith, c.before.before.before.requires.0)
 put-closed-requires : tie.Need-put-closed-requires invariant-loop decreases-loop
 put-closed-requires c κs =
     let al = c.before.before.before in
-    line-room _ _ _ _ _ al.before.before.requires.1 _ _ _ _ al.loop.invariant c.before.before.loop-test.true
+    line_room _ _ _ _ _ al.before.before.requires.1 _ _ _ _ al.loop.invariant c.before.before.loop-test.true
 
 add-i : tie.Need-overflow-add-i invariant-loop decreases-loop
 add-i c = search rules
@@ -49,7 +49,7 @@ loop-again c =
     let il = pc.before.before.before in
     let s = il.before.before.before in
     line_wrote _ _ _ _ _ s.requires.1 _ _ _ _ il.before.loop.invariant il.loop-test.true _ _
-    (tickets-left s.args.reads s.args.t3 (long s) s.args.first s.args.n s.requires.0 il.before.loop.i il.loop-test.true) _ (omega arith) _ _
+    (tickets_left s.args.reads s.args.t3 (long s) s.args.first s.args.n s.requires.0 il.before.loop.i il.loop-test.true) _ (omega arith) _ _
     pc.put-closed.ensures
 
 same_length : tie.Need-same-length invariant-loop decreases-loop
@@ -57,8 +57,8 @@ same_length c = c.before.loop.invariant.long
 
 returns : tie.Need-returns invariant-loop decreases-loop
 returns c =
-    let s = c.before.before.before in lines-put _ _ _ _ _ s.requires.1 _ _ _ _ c.before.loop.invariant c.loop-test.false
-    (tickets-over s.args.reads s.args.t3 (long s) s.args.first s.args.n s.requires.0 c.before.loop.i c.loop-test.false)
+    let s = c.before.before.before in lines_put _ _ _ _ _ s.requires.1 _ _ _ _ c.before.loop.invariant c.loop-test.false
+    (tickets_over s.args.reads s.args.t3 (long s) s.args.first s.args.n s.requires.0 c.before.loop.i c.loop-test.false)
 
 pub put-tickets-spec : {M : Type 1} → statement M
 put-tickets-spec =

@@ -3,7 +3,7 @@
 use mathlib.Core.Path.{◌∙◌}
 use native.Mathlib.Omega.{arith}
 use Rattle.answer_desk.specs.Answers.{boarded_top}
-use Rattle.text_pages.proofs.Pages.{wrote_on, wrote-within}
+use Rattle.text_pages.proofs.Pages.{wrote_on, wrote_within}
 use borrow.Author.Rules.{rules}
 use Rattle.answer_desk.proofs.pages.put_top.Statement.{statement}
 use Rattle.answer_desk.proofs.pages.put_top.Tie as tie
@@ -60,7 +60,7 @@ returns c =
     let two = wrote_on one (omega arith) pnl.put-number-line.ensures in
     let three = wrote_on two (omega arith) pnl2.put-number-line2.ensures in
     let four = wrote_on three (omega arith) pnl3.put-number-line3.ensures in
-    wrote-within (wrote_on four (omega arith) pnl4.put-number-line4.ensures) _ (omega arith)
+    wrote_within (wrote_on four (omega arith) pnl4.put-number-line4.ensures) _ (omega arith)
 
 pub put-top-spec : {M : Type 1} → statement M
 put-top-spec =

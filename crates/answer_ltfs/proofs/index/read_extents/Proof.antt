@@ -6,8 +6,8 @@ use lib.ListN.{length}
 use Rattle.tape_markup.specs.Places.{tokens_at}
 use Rattle.tape_files.specs.Index.{extent_name}
 use Rattle.answer_ltfs.specs.Private.Parts.{with_extent}
-use Rattle.tape_files.proofs.Placing.{named_here, unnamed_here, left_here, extent-here}
-use Rattle.tape_files.proofs.Bare.{ReadTo, read_none, read_more, read-over, read_less}
+use Rattle.tape_files.proofs.Placing.{named_here, unnamed_here, left_here, extent_here}
+use Rattle.tape_files.proofs.Bare.{ReadTo, read_none, read_more, read_over, read_less}
 use Rattle.answer_ltfs.proofs.Files.{extent_step, extents_read}
 use Rattle.answer_ltfs.proofs.index.read_extents.Statement.{statement}
 use Rattle.answer_ltfs.proofs.index.read_extents.Tie as tie
@@ -34,7 +34,7 @@ returns : tie.Need-returns invariant-loop decreases-loop
 returns c =
     let c1 = c.before in
     let c3 = c1.before.before in
-    let r = read-over extent_step _ _ _ _ _ _ c3.before.before.loop.invariant _ (unnamed_here _ _ c3.before.before.loop.invariant.around.within _ _ (rw c1.met.given.1 at c3.next-named.ensures)) in
+    let r = read_over extent_step _ _ _ _ _ _ c3.before.before.loop.invariant _ (unnamed_here _ _ c3.before.before.loop.invariant.around.within _ _ (rw c1.met.given.1 at c3.next-named.ensures)) in
     (r.0 ∙ extents_read _ _, r.1)
 
 enum-known-met-2 : tie.Need-enum-known-met-2 invariant-loop decreases-loop
@@ -61,7 +61,7 @@ loop-again c =
     let c8 = c6.before.before in
     let m = (named_here _ _ c8.loop.invariant.around.within _ _ (rw c4.met2.given.1 at c6.next-named.ensures)) in
     let e = c2.read-extent.ensures in
-    read_more extent_step _ _ _ _ _ _ c8.loop.invariant _ _ _ m (left_here _ _ m.within _ e.1) (c.with-extent.ensures ∙ ap (with_extent c8.loop.file) (extent-here _ _ m.within _ e.1 _ e.0))
+    read_more extent_step _ _ _ _ _ _ c8.loop.invariant _ _ _ m (left_here _ _ m.within _ e.1) (c.with-extent.ensures ∙ ap (with_extent c8.loop.file) (extent_here _ _ m.within _ e.1 _ e.0))
 
 pub read-extents-spec : {M : Type 1} → statement M
 read-extents-spec =

@@ -6,7 +6,7 @@ use lib.ListN.{length}
 use Rattle.tape_markup.specs.Places.{tokens_at}
 use Rattle.tape_files.specs.Index.{extent_info_name}
 use Rattle.tape_files.proofs.Placing.{named_here, unnamed_here}
-use Rattle.tape_files.proofs.Bare.{ReadTo, read_none, read_more, read-over, read_less}
+use Rattle.tape_files.proofs.Bare.{ReadTo, read_none, read_more, read_over, read_less}
 use Rattle.answer_ltfs.proofs.Files.{info_step, file_read}
 use Rattle.answer_ltfs.proofs.index.read_file.Statement.{statement}
 use Rattle.answer_ltfs.proofs.index.read_file.Tie as tie
@@ -33,7 +33,7 @@ returns : tie.Need-returns invariant-loop decreases-loop
 returns c =
     let c1 = c.before in
     let c3 = c1.before.before in
-    let r = read-over info_step _ _ _ _ _ _ c3.before.before.loop.invariant _ (unnamed_here _ _ c3.before.before.loop.invariant.around.within _ _ (rw c1.met.given.1 at c3.next-named.ensures)) in
+    let r = read_over info_step _ _ _ _ _ _ c3.before.before.loop.invariant _ (unnamed_here _ _ c3.before.before.loop.invariant.around.within _ _ (rw c1.met.given.1 at c3.next-named.ensures)) in
     (r.0 ∙ file_read _ _, r.1)
 
 enum-known-met-2 : tie.Need-enum-known-met-2 invariant-loop decreases-loop

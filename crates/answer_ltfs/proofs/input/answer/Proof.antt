@@ -2,7 +2,7 @@
 -- Assumes nothing.
 use borrow.Author.Rules.{rules}
 use native.Mathlib.Omega.{arith}
-use Rattle.answer_ltfs.proofs.Framing.{answer_refused, sheet-fits, sheet-part, answer-handed}
+use Rattle.answer_ltfs.proofs.Framing.{answer_refused, sheet_fits, sheet_part, answer_handed}
 use Rattle.sheet_writer.proofs.Sheets.{part_length}
 use Rattle.answer_ltfs.proofs.input.answer.Statement.{statement}
 use Rattle.answer_ltfs.proofs.input.answer.Tie as tie
@@ -42,10 +42,10 @@ put-left-out-requires : tie.Need-put-left-out-requires
 put-left-out-requires c κs = search rules
 
 array-share-prefix-page : tie.Need-array-share-prefix-page
-array-share-prefix-page c = let p = passed c in omega (arith, sheet-fits _ _ _ _ (told p.before).draft.ensures _ p.before.refused.ensures p.if1.left)
+array-share-prefix-page c = let p = passed c in omega (arith, sheet_fits _ _ _ _ (told p.before).draft.ensures _ p.before.refused.ensures p.if1.left)
 
 slice-aggregate-hand-both : tie.Need-slice-aggregate-hand-both
-slice-aggregate-hand-both c = let p = passed c.before in sheet-part _ _ _ _ (told p.before).draft.ensures _ p.before.refused.ensures p.if1.left
+slice-aggregate-hand-both c = let p = passed c.before in sheet_part _ _ _ _ (told p.before).draft.ensures _ p.before.refused.ensures p.if1.left
 
 array-share-prefix-list : tie.Need-array-share-prefix-list
 array-share-prefix-list c = search rules
@@ -67,7 +67,7 @@ returns-2 c =
     let h = c.before.before.before.before in
     let l = h.before.before.before.before.before in
     let p = passed l in
-    answer-handed _ _ _ _ (told p.before).draft.ensures _ p.before.refused.ensures p.if1.left _ _ _ _ _ l.before.put-left-out.ensures _ _ _ h.hand-both.ensures
+    answer_handed _ _ _ _ (told p.before).draft.ensures _ p.before.refused.ensures p.if1.left _ _ _ _ _ l.before.put-left-out.ensures _ _ _ h.hand-both.ensures
 
 pub answer-spec : {M : Type 1} → statement M
 answer-spec =

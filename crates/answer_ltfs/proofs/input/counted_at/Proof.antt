@@ -1,6 +1,6 @@
 -- `answer_ltfs::input::counted_at` meets its contract: a line with the key and a number, and so many bytes behind it.
 -- Assumes nothing.
-use Rattle.answer_ltfs.proofs.Framing.{uncounted, next_within, too_few, counted-there}
+use Rattle.answer_ltfs.proofs.Framing.{uncounted, next_within, too_few, counted_there}
 use borrow.Author.Rules.{rules}
 use Rattle.answer_ltfs.proofs.input.counted_at.Statement.{statement}
 use Rattle.answer_ltfs.proofs.input.counted_at.Tie as tie
@@ -31,7 +31,7 @@ add-t9 c = search rules
 returns-3 : tie.Need-returns-3
 returns-3 c =
     let c2 = c.before.before in
-    counted-there _ _ _ _ c2.before.before.number-line.ensures _ _ c2.number.given.1 c.if1.false
+    counted_there _ _ _ _ c2.before.before.number-line.ensures _ _ c2.number.given.1 c.if1.false
 
 pub counted-at-spec : {M : Type 1} → statement M
 counted-at-spec =

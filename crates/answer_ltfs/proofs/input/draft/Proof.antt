@@ -3,7 +3,7 @@
 use borrow.Author.Rules.{rules}
 use mathlib.Core.Path.{refl}
 use native.Mathlib.Omega.{arith}
-use Rattle.answer_ltfs.proofs.Framing.{name-ordered, name-within, texts_found, no_name, no-texts, drafted}
+use Rattle.answer_ltfs.proofs.Framing.{name_ordered, name_within, texts_found, no_name, no_texts, drafted}
 use Rattle.answer_ltfs.proofs.input.draft.Statement.{statement}
 use Rattle.answer_ltfs.proofs.input.draft.Tie as tie
 
@@ -54,16 +54,16 @@ returns-2 c =
     let c2 = c.before.before in
     let t = c2.before.before in
     let k = t.before in
-    no-texts _ _ _ (first-line k).tape-line.ensures _ _ k.before.end.given.1 _ t.texts-at.ensures c2.enum-told2.given.1 _ c.before.refuse-if2.ensures _ c.refusal-of2.ensures
+    no_texts _ _ _ (first-line k).tape-line.ensures _ _ k.before.end.given.1 _ t.texts-at.ensures c2.enum-told2.given.1 _ c.before.refuse-if2.ensures _ c.refusal-of2.ensures
 
 sub-table-sheet : tie.Need-overflow-sub-table-sheet
-sub-table-sheet c = let k = (behind-name c).before in name-ordered _ _ (first-line k).tape-line.ensures _ _ k.before.end.given.1
+sub-table-sheet c = let k = (behind-name c).before in name_ordered _ _ (first-line k).tape-line.ensures _ _ k.before.end.given.1
 
 part-table-sheet-start : tie.Need-slice-bounds-table-sheet-start
-part-table-sheet-start c = let k = (behind-name c).before in name-ordered _ _ (first-line k).tape-line.ensures _ _ k.before.end.given.1
+part-table-sheet-start c = let k = (behind-name c).before in name_ordered _ _ (first-line k).tape-line.ensures _ _ k.before.end.given.1
 
 part-table-sheet-end : tie.Need-slice-bounds-table-sheet-end
-part-table-sheet-end c = let k = (behind-name c).before in omega (arith, name-within _ _ (first-line k).tape-line.ensures _ _ k.before.end.given.1)
+part-table-sheet-end c = let k = (behind-name c).before in omega (arith, name_within _ _ (first-line k).tape-line.ensures _ _ k.before.end.given.1)
 
 sub-table-sheet-2 : tie.Need-overflow-sub-table-sheet-2
 sub-table-sheet-2 c =

@@ -1,15 +1,15 @@
 -- `answer_ltfs::input::hand_both` meets its contract: both texts in the rows, or neither.
 -- Assumes nothing.
-use Rattle.answer_ltfs.proofs.Framing.{out-short, notes-short, both_put}
+use Rattle.answer_ltfs.proofs.Framing.{out_short, notes_short, both_put}
 use borrow.Author.Rules.{rules}
 use Rattle.answer_ltfs.proofs.input.hand_both.Statement.{statement}
 use Rattle.answer_ltfs.proofs.input.hand_both.Tie as tie
 
 returns : tie.Need-returns
-returns c = out-short _ _ _ _ c.if1.true
+returns c = out_short _ _ _ _ c.if1.true
 
 returns-2 : tie.Need-returns-2
-returns-2 c = notes-short _ _ _ _ c.if2.true
+returns-2 c = notes_short _ _ _ _ c.if2.true
 
 put-requires : tie.Need-put-requires
 put-requires c κs = search rules

@@ -1,6 +1,6 @@
 -- `answer_ltfs::input::texts_at` meets its contract: the label, the index behind it, and nothing behind that.
 -- Assumes nothing.
-use Rattle.answer_ltfs.proofs.Framing.{too_long, no_label, no_index, text_behind, texts-there}
+use Rattle.answer_ltfs.proofs.Framing.{too_long, no_label, no_index, text_behind, texts_there}
 use borrow.Author.Rules.{rules}
 use Rattle.answer_ltfs.proofs.input.texts_at.Statement.{statement}
 use Rattle.answer_ltfs.proofs.input.texts_at.Tie as tie
@@ -51,7 +51,7 @@ returns-5 c =
     let c2 = c.before.before in
     let c7 = c2.before.before.before.before.before in
     let c11 = c7.before.before.before.before in
-    texts-there _ _ _ c7.before.before.counted-at.ensures _ _ c7.from.given.1 _ c2.before.before.counted-at2.ensures _ _ c2.index.given.1 c11.if1.false c.if2.false
+    texts_there _ _ _ c7.before.before.counted-at.ensures _ _ c7.from.given.1 _ c2.before.before.counted-at2.ensures _ _ c2.index.given.1 c11.if1.false c.if2.false
 
 pub texts-at-spec : {M : Type 1} → statement M
 texts-at-spec =

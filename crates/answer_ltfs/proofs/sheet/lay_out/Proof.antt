@@ -2,7 +2,7 @@
 -- Assumes nothing.
 use mathlib.Core.Path.{sym, ◌∙◌}
 use lib.Seq.{length-take-le}
-use Rattle.answer_ltfs.proofs.Laid.{laid-refused, laid-passed, laid-ends, laid_out, kept_few}
+use Rattle.answer_ltfs.proofs.Laid.{laid_refused, laid_passed, laid_ends, laid_out, kept_few}
 use borrow.Author.Rules.{rules}
 use Rattle.answer_ltfs.proofs.sheet.lay_out.Statement.{statement}
 use Rattle.answer_ltfs.proofs.sheet.lay_out.Tie as tie
@@ -43,7 +43,7 @@ returns c =
     let c3 = judged c.before.before in
     let c8 = gathered c3 in
     let c14 = c8.before.before.before.before.before.before in
-    let a = laid-refused c14.args.name.now c14.args.size c14.args.partition _ c14.args.out.now c8.gather.result _ _ c8.gather.ensures _
+    let a = laid_refused c14.args.name.now c14.args.size c14.args.partition _ c14.args.out.now c8.gather.result _ _ c8.gather.ensures _
     (record { first = c8.gather.kept.1.1.1.0; second = c8.gather.kept.1.1.1.1.0 })
     c3.judge-files.ensures (sym c.before.before.refused.ensures ∙ c.before.if1.true) in
     (c.refusal-of.ensures ∙ a.0, a.1)
@@ -60,12 +60,12 @@ last-end-requires c κs =
     let c4 = judged c2.before in
     let c9 = gathered c4 in
     let c15 = c9.before.before.before.before.before.before in
-    let p = laid-passed c15.args.name.now c15.args.size c15.args.partition _ c15.args.out.now c9.gather.result _ _ c9.gather.ensures _ c4.judge-files.ensures
+    let p = laid_passed c15.args.name.now c15.args.size c15.args.partition _ c15.args.out.now c9.gather.result _ _ c9.gather.ensures _ c4.judge-files.ensures
     (sym c2.before.refused.ensures ∙ c2.if1.false) in (
       c9.gather.ensures.within,
       (
         search rules,
-        laid-ends c15.args.name.now c15.args.size c15.args.partition _ c15.args.out.now c9.gather.result _ _ c9.gather.ensures p.0 p.1 p.2
+        laid_ends c15.args.name.now c15.args.size c15.args.partition _ c15.args.out.now c9.gather.result _ _ c9.gather.ensures p.0 p.1 p.2
             (record { first = c9.gather.kept.1.1.1.0; second = c9.gather.kept.1.1.1.1.0 }),
       ),
     )
@@ -103,7 +103,7 @@ returns-2 c =
     let c12 = judged c10.before in
     let c17 = gathered c12 in
     let c23 = c17.before.before.before.before.before.before in
-    let p = laid-passed c23.args.name.now c23.args.size c23.args.partition _ c23.args.out.now c17.gather.result _ _ c17.gather.ensures _ c12.judge-files.ensures
+    let p = laid_passed c23.args.name.now c23.args.size c23.args.partition _ c23.args.out.now c17.gather.result _ _ c17.gather.ensures _ c12.judge-files.ensures
     (sym c10.before.refused.ensures ∙ c10.if1.false) in
     let a = laid_out c23.args.name.now c23.args.size c23.args.partition _ c23.args.out.now c17.gather.result _ _ c17.gather.ensures p.0 p.1 p.2
     (record { first = c17.gather.kept.1.1.1.0; second = c17.gather.kept.1.1.1.1.0 }) c23.pre (sym p.3) _

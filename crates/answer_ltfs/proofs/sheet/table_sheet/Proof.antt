@@ -1,7 +1,7 @@
 -- `answer_ltfs::sheet::table_sheet` meets its contract: the texts are judged, then the files of the index decide.
 -- Assumes nothing.
 use mathlib.Core.Path.{sym, ◌∙◌}
-use Rattle.answer_ltfs.proofs.Laid.{sheet-refused, sheet-passed, sheet-laid}
+use Rattle.answer_ltfs.proofs.Laid.{sheet_refused, sheet_passed, sheet_laid}
 use borrow.Author.Rules.{rules}
 use Rattle.answer_ltfs.proofs.sheet.table_sheet.Statement.{statement}
 use Rattle.answer_ltfs.proofs.sheet.table_sheet.Tie as tie
@@ -23,7 +23,7 @@ returns c =
     let c3 = c.before.before.before in
     let c4 = c3.before in
     let c9 = c4.before.before.before.before.before in
-    let a = sheet-refused c9.args.name.now c9.args.label.now c9.args.index.now c9.args.out.now _ (rw c4.read-label.ensures at c3.judge-texts.ensures)
+    let a = sheet_refused c9.args.name.now c9.args.label.now c9.args.index.now c9.args.out.now _ (rw c4.read-label.ensures at c3.judge-texts.ensures)
     (sym c.before.before.refused.ensures ∙ c.before.if1.true) in
     (c.refusal-of.ensures ∙ a.0, a.1)
 
@@ -39,7 +39,7 @@ lay-out-requires c κs =
     let c5 = c3.before.before in
     let c6 = c5.before in
     let c11 = c6.before.before.before.before.before in
-    (sheet-passed c11.args.name.now c11.args.label.now c11.args.index.now c11.args.out.now _ (rw c6.read-label.ensures at c5.judge-texts.ensures)
+    (sheet_passed c11.args.name.now c11.args.label.now c11.args.index.now c11.args.out.now _ (rw c6.read-label.ensures at c5.judge-texts.ensures)
     (sym c3.before.refused.ensures ∙ c3.if1.false)).0
 
 same_length : tie.Need-same-length
@@ -54,9 +54,9 @@ returns-2 c =
     let c8 = c6.before.before in
     let c9 = c8.before in
     let c14 = c9.before.before.before.before.before in
-    let p = sheet-passed c14.args.name.now c14.args.label.now c14.args.index.now c14.args.out.now _ (rw c9.read-label.ensures at c8.judge-texts.ensures)
+    let p = sheet_passed c14.args.name.now c14.args.label.now c14.args.index.now c14.args.out.now _ (rw c9.read-label.ensures at c8.judge-texts.ensures)
     (sym c6.before.refused.ensures ∙ c6.if1.false) in
-    sheet-laid c14.args.name.now c14.args.label.now c14.args.index.now c14.args.out.now p.0 p.1 _ _
+    sheet_laid c14.args.name.now c14.args.label.now c14.args.index.now c14.args.out.now p.0 p.1 _ _
     (rw c9.read-label.ensures at c5.value_in.ensures) (rw c9.read-label.ensures at c4.value-in2.ensures) _ _ c2.lay-out.ensures.0
     c2.lay-out.ensures.1
 

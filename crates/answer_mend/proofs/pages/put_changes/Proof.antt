@@ -2,8 +2,8 @@
 -- Assumes nothing.
 use borrow.Author.Rules.{rules}
 use native.Mathlib.Omega.{arith}
-use Rattle.text_pages.proofs.Pages.{wrote-long}
-use Rattle.answer_mend.proofs.Texts.{above-few, room₂, room₃, room₄, fates-room, changes-put}
+use Rattle.text_pages.proofs.Pages.{wrote_long}
+use Rattle.answer_mend.proofs.Texts.{above_few, room₂, room₃, room₄, fates_room, changes_put}
 use Rattle.answer_mend.proofs.pages.put_changes.Statement.{statement}
 use Rattle.answer_mend.proofs.pages.put_changes.Tie as tie
 
@@ -29,7 +29,7 @@ at-put-if4 c = c.before.before.before.before
 add-above : tie.Need-overflow-add-above
 add-above c =
     let s = at-start-from-struct-known c in
-    let few = above-few s.args.page.now _ _ _ _ _ s.pre.0 s.pre.1 in search rules
+    let few = above_few s.args.page.now _ _ _ _ _ s.pre.0 s.pre.1 in search rules
 
 slice-aggregate-put-if : tie.Need-slice-aggregate-put-if
 slice-aggregate-put-if c = search rules
@@ -77,7 +77,7 @@ put-fates-requires c κs =
     let pi2 = at-put-if2 pi3 in
     let pi = at-put-if pi2 in
     let s = at-start pi.before in
-    fates-room s.args.page.now _ _ _ _ _ s.pre.0 s.pre.1 pi.put_if.ensures pi.put_if.kept.0 pi2.put-if2.ensures pi2.put-if2.kept.0
+    fates_room s.args.page.now _ _ _ _ _ s.pre.0 s.pre.1 pi.put_if.ensures pi.put_if.kept.0 pi2.put-if2.ensures pi2.put-if2.kept.0
     pi3.put-if3.ensures pi3.put-if3.kept.0 pi4.put-if4.ensures pi4.put-if4.auto.0
 
 same_length : tie.Need-same-length
@@ -88,8 +88,8 @@ same_length c =
     let pi2 = at-put-if2 pi3 in
     let pi = at-put-if pi2 in
     let s = at-start pi.before in
-    wrote-long
-    (changes-put s.args.page.now _ _ _ _ _ s.pre.0 s.pre.1 pi.put_if.ensures pi.put_if.kept.0 pi2.put-if2.ensures pi2.put-if2.kept.0
+    wrote_long
+    (changes_put s.args.page.now _ _ _ _ _ s.pre.0 s.pre.1 pi.put_if.ensures pi.put_if.kept.0 pi2.put-if2.ensures pi2.put-if2.kept.0
     pi3.put-if3.ensures pi3.put-if3.kept.0 pi4.put-if4.ensures pi4.put-if4.kept.0 pf.put-fates.ensures)
     (omega (arith, s.pre.1))
 
@@ -101,7 +101,7 @@ returns c =
     let pi2 = at-put-if2 pi3 in
     let pi = at-put-if pi2 in
     let s = at-start pi.before in
-    changes-put s.args.page.now _ _ _ _ _ s.pre.0 s.pre.1 pi.put_if.ensures pi.put_if.kept.0 pi2.put-if2.ensures pi2.put-if2.kept.0
+    changes_put s.args.page.now _ _ _ _ _ s.pre.0 s.pre.1 pi.put_if.ensures pi.put_if.kept.0 pi2.put-if2.ensures pi2.put-if2.kept.0
     pi3.put-if3.ensures pi3.put-if3.kept.0 pi4.put-if4.ensures pi4.put-if4.kept.0 pf.put-fates.ensures
 
 pub put-changes-spec : {M : Type 1} → statement M

@@ -4,7 +4,7 @@ use borrow.Author.Rules.{rules}
 use Prim.Native.Nat.{◌-◌}
 use lib.ListN.{length}
 use native.Mathlib.Omega.{arith}
-use Rattle.answer_mend.proofs.Texts.{FatesPut, fates_none, fate-room, fate-more, fates-all}
+use Rattle.answer_mend.proofs.Texts.{FatesPut, fates_none, fate_room, fate_more, fates_all}
 use Rattle.answer_mend.proofs.pages.put_fates.Statement.{statement}
 use Rattle.answer_mend.proofs.pages.put_fates.Tie as tie
 
@@ -33,7 +33,7 @@ at-start c = c.before.before.before.before
 put-fate-requires : tie.Need-put-fate-requires invariant-loop decreases-loop
 put-fate-requires c κs =
     let al = c.before.before.before in
-    fate-room _ _ _ _ _ (at-start al).requires.1.1 _ _ _ al.loop.invariant c.before.before.loop-test.true
+    fate_room _ _ _ _ _ (at-start al).requires.1.1 _ _ _ al.loop.invariant c.before.before.loop-test.true
 
 add-i : tie.Need-overflow-add-i invariant-loop decreases-loop
 add-i c = search rules
@@ -45,14 +45,14 @@ loop-again : tie.Need-loop-preserved invariant-loop decreases-loop
 loop-again c =
     let pf = c.before.before in
     let il = pf.before.before.before in
-    fate-more _ _ _ _ _ (at-start il.before).pre.1.1 _ _ _ il.before.loop.invariant il.loop-test.true _ _ pf.put-fate.auto.0 _
+    fate_more _ _ _ _ _ (at-start il.before).pre.1.1 _ _ _ il.before.loop.invariant il.loop-test.true _ _ pf.put-fate.auto.0 _
     pf.before.before.fate-of.ensures pf.put-fate.ensures
 
 same_length : tie.Need-same-length invariant-loop decreases-loop
 same_length c = c.before.loop.invariant.long
 
 returns : tie.Need-returns invariant-loop decreases-loop
-returns c = fates-all _ _ _ _ _ (at-start c.before).pre.1.1 _ _ _ c.before.loop.invariant c.loop-test.false
+returns c = fates_all _ _ _ _ _ (at-start c.before).pre.1.1 _ _ _ c.before.loop.invariant c.loop-test.false
 
 pub put-fates-spec : {M : Type 1} → statement M
 put-fates-spec =

@@ -1,7 +1,7 @@
 -- `answer_mend::pages::put_if` meets its contract.
 -- Assumes nothing.
 use borrow.Author.Rules.{rules}
-use Rattle.answer_mend.proofs.Texts.{change-said, change_unsaid}
+use Rattle.answer_mend.proofs.Texts.{change_said, change_unsaid}
 use Rattle.answer_mend.proofs.pages.put_if.Statement.{statement}
 use Rattle.answer_mend.proofs.pages.put_if.Tie as tie
 
@@ -12,7 +12,7 @@ same_length : tie.Need-same-length
 same_length c = c.before.before.put-change.auto.0
 
 returns : tie.Need-returns
-returns c = change-said _ _ _ _ _ c.before.before.before.before.before.before.before.args.word.now _ c.before.before.before.before.if1.true c.before.before.put-change.ensures
+returns c = change_said _ _ _ _ _ c.before.before.before.before.before.before.before.args.word.now _ c.before.before.before.before.if1.true c.before.before.put-change.ensures
 
 returns-2 : tie.Need-returns-2
 returns-2 c = change_unsaid _ _ _ c.before.before.before.args.word.now _ c.if1.false

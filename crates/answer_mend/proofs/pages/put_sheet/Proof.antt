@@ -4,8 +4,8 @@ use borrow.Author.Rules.{rules}
 use native.Mathlib.Omega.{arith}
 use mathlib.Core.Path.{sym}
 use lib.Seq.{length-take-le}
-use Rattle.text_pages.proofs.Pages.{wrote-long}
-use Rattle.answer_mend.proofs.Texts.{table-within, tail_within, third-within, wants-room, sheet-put}
+use Rattle.text_pages.proofs.Pages.{wrote_long}
+use Rattle.answer_mend.proofs.Texts.{table_within, tail_within, third_within, wants_room, sheet_put}
 use Rattle.answer_mend.proofs.pages.put_sheet.Statement.{statement}
 use Rattle.answer_mend.proofs.pages.put_sheet.Tie as tie
 
@@ -40,7 +40,7 @@ at-put-number-line3 c = c.before.before.before.before
 slice-aggregate-put : tie.Need-slice-aggregate-put
 slice-aggregate-put c =
     let s = at-start-from-put-arg2 c in
-    sym (length-take-le _ s.args.sheet.now (third-within s.args.page.now _ _ _ _ _ s.pre.0 s.pre.1))
+    sym (length-take-le _ s.args.sheet.now (third_within s.args.page.now _ _ _ _ _ s.pre.0 s.pre.1))
 
 put-requires : tie.Need-put-requires
 put-requires c κs = search rules
@@ -66,12 +66,12 @@ put-number-line-requires-2 c κs = search rules
 sub-put : tie.Need-overflow-sub-put
 sub-put c =
     let s = at-start-from-put-arg5 c in
-    table-within s.args.page.now _ _ _ _ _ s.pre.0 s.pre.1
+    table_within s.args.page.now _ _ _ _ _ s.pre.0 s.pre.1
 
 part-put-start : tie.Need-slice-bounds-put-start
 part-put-start c =
     let s = at-start-from-put-arg5 c in
-    table-within s.args.page.now _ _ _ _ _ s.pre.0 s.pre.1
+    table_within s.args.page.now _ _ _ _ _ s.pre.0 s.pre.1
 
 part-put-end : tie.Need-slice-bounds-put-end
 part-put-end c =
@@ -95,7 +95,7 @@ put-wants-requires c κs =
     let p2 = at-put2 pnl2 in
     let pnl = at-put-number-line p2 in
     let s = at-start pnl in
-    wants-room s.args.page.now _ _ _ _ _ s.pre.0 s.pre.1 (at-put pnl).put.ensures pnl.put-number-line.ensures p2.put2.ensures
+    wants_room s.args.page.now _ _ _ _ _ s.pre.0 s.pre.1 (at-put pnl).put.ensures pnl.put-number-line.ensures p2.put2.ensures
     pnl2.put-number-line2.ensures p3.put3.ensures pnl3.put-number-line3.ensures
 
 same_length : tie.Need-same-length
@@ -107,8 +107,8 @@ same_length c =
     let p2 = at-put2 pnl2 in
     let pnl = at-put-number-line p2 in
     let s = at-start pnl in
-    wrote-long
-    (sheet-put s.args.page.now _ _ _ _ _ s.pre.0 s.pre.1 (at-put pnl).put.ensures pnl.put-number-line.ensures p2.put2.ensures
+    wrote_long
+    (sheet_put s.args.page.now _ _ _ _ _ s.pre.0 s.pre.1 (at-put pnl).put.ensures pnl.put-number-line.ensures p2.put2.ensures
     pnl2.put-number-line2.ensures p3.put3.ensures pnl3.put-number-line3.ensures pw.put-wants.ensures)
     (omega (arith, s.pre.1))
 
@@ -121,7 +121,7 @@ returns c =
     let p2 = at-put2 pnl2 in
     let pnl = at-put-number-line p2 in
     let s = at-start pnl in
-    sheet-put s.args.page.now _ _ _ _ _ s.pre.0 s.pre.1 (at-put pnl).put.ensures pnl.put-number-line.ensures p2.put2.ensures
+    sheet_put s.args.page.now _ _ _ _ _ s.pre.0 s.pre.1 (at-put pnl).put.ensures pnl.put-number-line.ensures p2.put2.ensures
     pnl2.put-number-line2.ensures p3.put3.ensures pnl3.put-number-line3.ensures pw.put-wants.ensures
 
 pub put-sheet-spec : {M : Type 1} → statement M

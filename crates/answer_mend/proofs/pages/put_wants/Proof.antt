@@ -5,9 +5,9 @@ use Prim.Native.Nat.{◌-◌}
 use lib.ListN.{length, drop}
 use Rattle.sheet_reader.specs.Lines.{want_key}
 use Rattle.text_pages.specs.Printing.{pair_lines}
-use Rattle.text_pages.proofs.Pages.{LinesPut, lines_put_none, lines-put, pairs-over}
+use Rattle.text_pages.proofs.Pages.{LinesPut, lines_put_none, lines_put, pairs_over}
 use Rattle.answer_mend.specs.Wants.{reads_each}
-use Rattle.answer_mend.proofs.Texts.{want-put, each_long}
+use Rattle.answer_mend.proofs.Texts.{want_put, each_long}
 use Rattle.answer_mend.proofs.pages.put_wants.Statement.{statement}
 use Rattle.answer_mend.proofs.pages.put_wants.Tie as tie
 
@@ -58,13 +58,13 @@ loop-again c =
     let ppl = c.before.before in
     let ro = ppl.before.before.before.before in
     let al = ro.before.before.before in
-    want-put _ _ _ _ _ (at-start al).requires.1 _ _ _ al.loop.invariant ro.before.before.loop-test.true _ ro.Reads-of.ensures _ _ ppl.put-pair-line.ensures
+    want_put _ _ _ _ _ (at-start al).requires.1 _ _ _ al.loop.invariant ro.before.before.loop-test.true _ ro.Reads-of.ensures _ _ ppl.put-pair-line.ensures
 
 same_length : tie.Need-same-length invariant-loop decreases-loop
 same_length c = c.before.loop.invariant.long
 
 returns : tie.Need-returns invariant-loop decreases-loop
-returns c = lines-put _ _ _ _ _ (at-start c.before).pre.1 _ _ _ _ c.before.loop.invariant c.loop-test.false (pairs-over want_key _ _ (each_long _ _ _) _ c.loop-test.false)
+returns c = lines_put _ _ _ _ _ (at-start c.before).pre.1 _ _ _ _ c.before.loop.invariant c.loop-test.false (pairs_over want_key _ _ (each_long _ _ _) _ c.loop-test.false)
 
 pub put-wants-spec : {M : Type 1} → statement M
 put-wants-spec =

@@ -1,7 +1,7 @@
 -- `answer_month::put_end` meets its contract.
 -- Assumes nothing.
 use mathlib.Core.Path.{◌∙◌}
-use Rattle.answer_month.proofs.Pages.{put-saved, put_refused}
+use Rattle.answer_month.proofs.Pages.{put_saved, put_refused}
 use borrow.Author.Rules.{rules}
 use Rattle.answer_month.proofs.page.put_end.Statement.{statement}
 use Rattle.answer_month.proofs.page.put_end.Tie as tie
@@ -22,7 +22,7 @@ returns : tie.Need-returns
 returns c =
     let at-put-number-line = c.before.before.before.before in
     let start = at-put-number-line.before.before.before.before in
-    put-saved _ _ _ c.before.refused.ensures _ _ _ _ start.requires at-put-number-line.put-number-line.ensures c.if1.true
+    put_saved _ _ _ c.before.refused.ensures _ _ _ _ start.requires at-put-number-line.put-number-line.ensures c.if1.true
 
 slice-aggregate-put-number-line-2 : tie.Need-slice-aggregate-put-number-line-2
 slice-aggregate-put-number-line-2 c = search rules

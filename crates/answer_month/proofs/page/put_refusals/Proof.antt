@@ -4,7 +4,7 @@ use Prim.Native.Nat.{◌-◌}
 use native.Mathlib.Omega.{arith}
 use lib.ListN.{length, drop}
 use borrow.Author.Rules.{rules}
-use Rattle.text_pages.proofs.Pages.{LinesPut, lines_put_none, line-room, line_wrote, lines-put}
+use Rattle.text_pages.proofs.Pages.{LinesPut, lines_put_none, line_room, line_wrote, lines_put}
 use Rattle.answer_month.specs.Page.{refusal_lines}
 use Rattle.answer_month.proofs.Pages.{lines_left, lines_over}
 use Rattle.answer_month.proofs.page.put_refusals.Statement.{statement}
@@ -26,7 +26,7 @@ shared-slice-read-put-refusal : tie.Need-shared-slice-read-put-refusal invariant
 shared-slice-read-put-refusal c = search rules
 
 put-refusal-requires : tie.Need-put-refusal-requires invariant-loop decreases-loop
-put-refusal-requires c κs = line-room _ _ _ _ _ c.before.before.before.before.before.before.requires _ _ _ _ c.before.before.before.loop.invariant c.before.before.loop-test.true
+put-refusal-requires c κs = line_room _ _ _ _ _ c.before.before.before.before.before.before.requires _ _ _ _ c.before.before.before.loop.invariant c.before.before.loop-test.true
 
 add-i : tie.Need-overflow-add-i invariant-loop decreases-loop
 add-i c = search rules
@@ -45,7 +45,7 @@ same_length : tie.Need-same-length invariant-loop decreases-loop
 same_length c = c.before.loop.invariant.long
 
 returns : tie.Need-returns invariant-loop decreases-loop
-returns c = lines-put _ _ _ _ _ c.before.before.before.before.requires _ _ _ _ c.before.loop.invariant c.loop-test.false (lines_over _ _ c.loop-test.false)
+returns c = lines_put _ _ _ _ _ c.before.before.before.before.requires _ _ _ _ c.before.loop.invariant c.loop-test.false (lines_over _ _ c.loop-test.false)
 
 pub put-refusals-spec : {M : Type 1} → statement M
 put-refusals-spec =

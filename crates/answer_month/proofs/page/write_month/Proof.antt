@@ -3,7 +3,7 @@
 use mathlib.Core.Path.{sym}
 use native.Mathlib.Omega.{arith}
 use lib.Seq.{length-take-le}
-use Rattle.answer_month.proofs.Pages.{short_tape, room-two, room-three, room-four, page-kept, page-within, page_put}
+use Rattle.answer_month.proofs.Pages.{short_tape, room_two, room_three, room_four, page_kept, page_within, page_put}
 use borrow.Author.Rules.{rules}
 use Rattle.answer_month.proofs.page.write_month.Statement.{statement}
 use Rattle.answer_month.proofs.page.write_month.Tie as tie
@@ -31,7 +31,7 @@ put-sums-requires c κs =
     let runs-lent = c.before.before.before in
     let page-lent = runs-lent.before in
     let start = page-lent.before.before.before.before.before.before in
-    room-two start.args.month start.args.verdict (sym (slice-aggregate-put-top-2 runs-lent)) _ (sym (slice-aggregate-put-top page-lent)) _ _ c.before.before.put-top.ensures
+    room_two start.args.month start.args.verdict (sym (slice-aggregate-put-top-2 runs-lent)) _ (sym (slice-aggregate-put-top page-lent)) _ _ c.before.before.put-top.ensures
 
 slice-aggregate-put-longest : tie.Need-slice-aggregate-put-longest
 slice-aggregate-put-longest c = search rules
@@ -44,7 +44,7 @@ put-longest-requires c κs =
     let at-tape-of = page-lent.before in
     let tape-lent = at-tape-of.before in
     let start = tape-lent.before.before.before.before in
-    (room-three start.args.month start.args.verdict (sym (slice-aggregate-put-top-2 runs-lent)) _ (sym (slice-aggregate-put-top page-lent)) _ _ at-put-top.put-top.ensures _ _ c.before.before.put-sums.ensures, short_tape start.args.month.tape _ start.args.month.letters at-tape-of.tape-of.ensures (slice-aggregate-tape-of tape-lent))
+    (room_three start.args.month start.args.verdict (sym (slice-aggregate-put-top-2 runs-lent)) _ (sym (slice-aggregate-put-top page-lent)) _ _ at-put-top.put-top.ensures _ _ c.before.before.put-sums.ensures, short_tape start.args.month.tape _ start.args.month.letters at-tape-of.tape-of.ensures (slice-aggregate-tape-of tape-lent))
 
 slice-aggregate-put-end : tie.Need-slice-aggregate-put-end
 slice-aggregate-put-end c = search rules
@@ -57,7 +57,7 @@ put-end-requires c κs =
     let page-lent = runs-lent.before in
     let at-tape-of = page-lent.before in
     let start = at-tape-of.before.before.before.before.before in
-    room-four start.args.month start.args.verdict (sym (slice-aggregate-put-top-2 runs-lent)) _ (sym (slice-aggregate-put-top page-lent)) _ _ at-put-top.put-top.ensures _ _ at-put-sums.put-sums.ensures _ at-tape-of.tape-of.ensures _ _ c.before.before.put-longest.ensures
+    room_four start.args.month start.args.verdict (sym (slice-aggregate-put-top-2 runs-lent)) _ (sym (slice-aggregate-put-top page-lent)) _ _ at-put-top.put-top.ensures _ _ at-put-sums.put-sums.ensures _ at-tape-of.tape-of.ensures _ _ c.before.before.put-longest.ensures
 
 array-share-prefix-page : tie.Need-array-share-prefix-page
 array-share-prefix-page c =
@@ -68,7 +68,7 @@ array-share-prefix-page c =
     let page-lent = runs-lent.before in
     let at-tape-of = page-lent.before in
     let start = at-tape-of.before.before.before.before.before in
-    omega (arith, page-within start.args.month start.args.verdict (sym (slice-aggregate-put-top-2 runs-lent)) _ (sym (slice-aggregate-put-top page-lent)) _ _ at-put-top.put-top.ensures _ _ at-put-sums.put-sums.ensures _ at-tape-of.tape-of.ensures _ _ at-put-longest.put-longest.ensures _ _ c.before.before.put-end.ensures, page-kept start.args.month start.args.verdict (sym (slice-aggregate-put-top-2 runs-lent)) _ (sym (slice-aggregate-put-top page-lent)) _ _ at-put-top.put-top.ensures _ _ at-put-sums.put-sums.ensures _ at-tape-of.tape-of.ensures _ _ at-put-longest.put-longest.ensures _ _ c.before.before.put-end.ensures)
+    omega (arith, page_within start.args.month start.args.verdict (sym (slice-aggregate-put-top-2 runs-lent)) _ (sym (slice-aggregate-put-top page-lent)) _ _ at-put-top.put-top.ensures _ _ at-put-sums.put-sums.ensures _ at-tape-of.tape-of.ensures _ _ at-put-longest.put-longest.ensures _ _ c.before.before.put-end.ensures, page_kept start.args.month start.args.verdict (sym (slice-aggregate-put-top-2 runs-lent)) _ (sym (slice-aggregate-put-top page-lent)) _ _ at-put-top.put-top.ensures _ _ at-put-sums.put-sums.ensures _ at-tape-of.tape-of.ensures _ _ at-put-longest.put-longest.ensures _ _ c.before.before.put-end.ensures)
 
 slice-aggregate-put : tie.Need-slice-aggregate-put
 slice-aggregate-put c = sym (length-take-le _ _ (array-share-prefix-page c.before))

@@ -3,7 +3,7 @@
 use mathlib.Core.Path.{sym}
 use native.Mathlib.Omega.{arith}
 use lib.Seq.{length-take-le}
-use Rattle.answer_month.proofs.Counts.{no_line, ends_at, more-behind, not-number, counts}
+use Rattle.answer_month.proofs.Counts.{no_line, ends_at, more_behind, not_number, counts}
 use borrow.Author.Rules.{rules}
 use Rattle.answer_month.proofs.parts.count_line.Statement.{statement}
 use Rattle.answer_month.proofs.parts.count_line.Tie as tie
@@ -24,7 +24,7 @@ add-if1 : tie.Need-overflow-add-if1
 add-if1 c = omega (arith, (ends_at _ _ c.before.before.before.find.ensures _ c.before.end.given.1).within)
 
 returns-2 : tie.Need-returns-2
-returns-2 c = more-behind _ _ c.before.before.before.before.find.ensures _ c.before.before.end.given.1 c.if1.true
+returns-2 c = more_behind _ _ c.before.before.before.before.find.ensures _ c.before.before.end.given.1 c.if1.true
 
 slice-aggregate-read-number : tie.Need-slice-aggregate-read-number
 slice-aggregate-read-number c = sym (length-take-le _ _ (omega (arith, (ends_at _ _ c.before.before.before.before.before.find.ensures _ c.before.before.before.end.given.1).within)))
@@ -43,7 +43,7 @@ returns-3 c =
     let at-if1 = c.before.before.before.before in
     let at_end = at-if1.before.before in
     let at-find = at_end.before.before in
-    not-number _ _ at-find.find.ensures _ at_end.end.given.1 at-if1.if1.false _ c.before.before.read_number.ensures c.enum-told2.given.1
+    not_number _ _ at-find.find.ensures _ at_end.end.given.1 at-if1.if1.false _ c.before.before.read_number.ensures c.enum-told2.given.1
 
 returns-4 : tie.Need-returns-4
 returns-4 c =

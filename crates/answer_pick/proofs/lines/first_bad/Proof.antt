@@ -3,7 +3,7 @@
 use borrow.Author.Rules.{rules}
 use Prim.Native.Nat.{◌-◌}
 use lib.ListN.{length}
-use Rattle.answer_pick.proofs.Judging.{NoneBad, bad-none, bad_more, bad-here, bad-nowhere}
+use Rattle.answer_pick.proofs.Judging.{NoneBad, bad_none, bad_more, bad_here, bad_nowhere}
 use Rattle.answer_pick.proofs.lines.first_bad.Statement.{statement}
 use Rattle.answer_pick.proofs.lines.first_bad.Tie as tie
 
@@ -14,7 +14,7 @@ abbrev decreases-loop : tie.decreases-loop
 decreases-loop test row i₀ i = length row - i
 
 loop-holds : tie.Need-loop-init invariant-loop decreases-loop
-loop-holds c = bad-none _ _
+loop-holds c = bad_none _ _
 
 mul-is-bad : tie.Need-overflow-mul-is-bad invariant-loop decreases-loop
 mul-is-bad c = search rules
@@ -30,7 +30,7 @@ add-result c = search rules
 
 returns : tie.Need-returns invariant-loop decreases-loop
 returns c =
-    bad-here _ _ _ c.before.before.before.before.loop.invariant c.before.before.before.loop-test.true _ c.before.is-bad.ensures c.if1.true
+    bad_here _ _ _ c.before.before.before.before.loop.invariant c.before.before.before.loop-test.true _ c.before.is-bad.ensures c.if1.true
 
 add-i : tie.Need-overflow-add-i invariant-loop decreases-loop
 add-i c = search rules
@@ -43,7 +43,7 @@ loop-again c =
     bad_more _ _ _ c.before.before.before.before.loop.invariant c.before.before.before.loop-test.true _ c.before.is-bad.ensures c.if1.false
 
 returns-2 : tie.Need-returns-2 invariant-loop decreases-loop
-returns-2 c = bad-nowhere _ _ _ c.before.loop.invariant c.loop-test.false
+returns-2 c = bad_nowhere _ _ _ c.before.loop.invariant c.loop-test.false
 
 pub first-bad-spec : {M : Type 1} → statement M
 first-bad-spec = tie.close (tie.spec invariant-loop decreases-loop loop-holds mul-is-bad shared-slice-read-is-bad is-bad-requires add-result returns add-i loop-less loop-again returns-2)

@@ -2,7 +2,7 @@
 -- Assumes nothing.
 use borrow.Author.Rules.{rules}
 use mathlib.Core.Path.{◌∙◌}
-use Rattle.answer_pick.proofs.Labels.{label-bad, index-bad, index_read}
+use Rattle.answer_pick.proofs.Labels.{label_bad, index_bad, index_read}
 use Rattle.answer_pick.proofs.texts.read_index.Statement.{statement}
 use Rattle.answer_pick.proofs.texts.read_index.Tie as tie
 
@@ -46,7 +46,7 @@ is-label-requires c κs = search rules
 returns : tie.Need-returns
 returns c =
     let a = (at-start-from-then1 c).args in
-    label-bad a.unit a.label.now a.index.now a.list.now _ _ _ _ c.before.before.read-label.ensures _ c.before.is-label.ensures c.if1.true
+    label_bad a.unit a.label.now a.index.now a.list.now _ _ _ _ c.before.before.read-label.ensures _ c.before.is-label.ensures c.if1.true
 
 has-index-requires : tie.Need-has-index-requires
 has-index-requires c κs = search rules
@@ -54,7 +54,7 @@ has-index-requires c κs = search rules
 returns-2 : tie.Need-returns-2
 returns-2 c =
     let a = (at-start-from-then2 c).args in
-    index-bad a.unit a.label.now a.index.now a.list.now _ _ _ _ c.before.before.before.before.read-label.ensures _ c.before.before.before.is-label.ensures c.before.before.if1.false _ c.before.has-index.ensures c.if2.true
+    index_bad a.unit a.label.now a.index.now a.list.now _ _ _ _ c.before.before.before.before.read-label.ensures _ c.before.before.before.is-label.ensures c.before.before.if1.false _ c.before.has-index.ensures c.if2.true
 
 value-in-requires : tie.Need-value-in-requires
 value-in-requires c κs = search rules

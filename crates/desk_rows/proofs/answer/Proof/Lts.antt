@@ -1418,7 +1418,7 @@ module _ (claims· : Claims) where
 
       pub record After-told-by : Type 0 where
         pub before : After-ts
-        pub told_by_lem : After-told-by·own before
+        pub told-by : After-told-by·own before
 
       abbrev pub After-told-by·gave : (c : After-told-by) → (s47 c.before.before.before.before.before.before.before.before.before.before.before.before.before.before.before.before.before.before.before.before.before.blocks).gives (m35 c.before.before c.before.ts.given)
       After-told-by·gave = λ c. Called.given ps·3 r·3 claims·.7 T47 (record { pos = 12; st = []; d = 0; at = λ x. x }, tt) (m35 c.before.before c.before.ts.given) c.told-by
@@ -1443,10 +1443,10 @@ module _ (claims· : Claims) where
 
       module _ (copy-out-requires : Need-copy-out-requires) (answer-requires : Need-answer-requires) (copy-in-requires : Need-copy-in-requires) (told-by-requires : Need-told-by-requires) (same_length : Need-same-length) (same-length-2 : Need-same-length-2) (same-length-3 : Need-same-length-3) (returns : Need-returns) where
         lay4 : (c : After-told-by) → at2 c.before.before.before.before.before.before.before.before.before.before.before.before.before.before.before.before.before.before.before.before.before.blocks (W0 c.before.before.before.before.before.before.before.before.before.before.before.before.before.before.before.before.before.before.before.before.before.κs c.before.before.before.before.before.before.before.before.before.before.before.before.before.before.before.before.before.before.before.before.before.args c.before.before.before.before.before.before.before.before.before.before.before.before.before.before.before.before.before.before.before.before.before.blocks) (m36 c.before (After-told-by·gave c))
-        lay4 = λ c. ((fix_len (get 1 T51.locals (m38 c.before (After-told-by·gave c))).ptr (get 1 T51.locals (m38 c.before (After-told-by·gave c))).name (get 1 T51.locals (m38 c.before (After-told-by·gave c))).now (dens c.before.before.before.before.before.before.before.before.before.before.before.before.before.before.before.before.before.before.before.before.before.κs c.before.before.before.before.before.before.before.before.before.before.before.before.before.before.before.before.before.before.before.before.before.args).0.now (same_length record { before = c.before; told_by_lem = c.told-by }), (tt, (refl, (refl, (refl, (refl, (fix_len (get 7 T51.locals (m38 c.before (After-told-by·gave c))).ptr (get 7 T51.locals (m38 c.before (After-told-by·gave c))).name (get 7 T51.locals (m38 c.before (After-told-by·gave c))).now (dens c.before.before.before.before.before.before.before.before.before.before.before.before.before.before.before.before.before.before.before.before.before.κs c.before.before.before.before.before.before.before.before.before.before.before.before.before.before.before.before.before.before.before.before.before.args).1.1.1.1.1.1.0.now (same-length-2 record { before = c.before; told_by_lem = c.told-by }), (fix_len (get 8 T51.locals (m38 c.before (After-told-by·gave c))).ptr (get 8 T51.locals (m38 c.before (After-told-by·gave c))).name (get 8 T51.locals (m38 c.before (After-told-by·gave c))).now (dens c.before.before.before.before.before.before.before.before.before.before.before.before.before.before.before.before.before.before.before.before.before.κs c.before.before.before.before.before.before.before.before.before.before.before.before.before.before.before.before.before.before.before.before.before.args).1.1.1.1.1.1.1.0.now (same-length-3 record { before = c.before; told_by_lem = c.told-by }), tt)))))))), returns record { before = c.before; told_by_lem = c.told-by })
+        lay4 = λ c. ((fix_len (get 1 T51.locals (m38 c.before (After-told-by·gave c))).ptr (get 1 T51.locals (m38 c.before (After-told-by·gave c))).name (get 1 T51.locals (m38 c.before (After-told-by·gave c))).now (dens c.before.before.before.before.before.before.before.before.before.before.before.before.before.before.before.before.before.before.before.before.before.κs c.before.before.before.before.before.before.before.before.before.before.before.before.before.before.before.before.before.before.before.before.before.args).0.now (same_length record { before = c.before; told-by = c.told-by }), (tt, (refl, (refl, (refl, (refl, (fix_len (get 7 T51.locals (m38 c.before (After-told-by·gave c))).ptr (get 7 T51.locals (m38 c.before (After-told-by·gave c))).name (get 7 T51.locals (m38 c.before (After-told-by·gave c))).now (dens c.before.before.before.before.before.before.before.before.before.before.before.before.before.before.before.before.before.before.before.before.before.κs c.before.before.before.before.before.before.before.before.before.before.before.before.before.before.before.before.before.before.before.before.before.args).1.1.1.1.1.1.0.now (same-length-2 record { before = c.before; told-by = c.told-by }), (fix_len (get 8 T51.locals (m38 c.before (After-told-by·gave c))).ptr (get 8 T51.locals (m38 c.before (After-told-by·gave c))).name (get 8 T51.locals (m38 c.before (After-told-by·gave c))).now (dens c.before.before.before.before.before.before.before.before.before.before.before.before.before.before.before.before.before.before.before.before.before.κs c.before.before.before.before.before.before.before.before.before.before.before.before.before.before.before.before.before.before.before.before.before.args).1.1.1.1.1.1.1.0.now (same-length-3 record { before = c.before; told-by = c.told-by }), tt)))))))), returns record { before = c.before; told-by = c.told-by })
 
         lay3 : (c : After-copy-in) → at8 c.before.before.before.before.before.before.before.before.before.before.before.before.before.before.before.before.before.before.before.blocks (W0 c.before.before.before.before.before.before.before.before.before.before.before.before.before.before.before.before.before.before.before.κs c.before.before.before.before.before.before.before.before.before.before.before.before.before.before.before.before.before.before.before.args c.before.before.before.before.before.before.before.before.before.before.before.before.before.before.before.before.before.before.before.blocks) (m32 c.before (After-copy-in·gave c))
-        lay3 = λ c. (refl, λ g. (told-by-requires record { before = record { before = c.before; copy-in = c.copy-in }; ts = record { given = g } }, λ g'. lay4 record { before = record { before = record { before = c.before; copy-in = c.copy-in }; ts = record { given = g } }; told_by_lem = called ps·3 r·3 claims·.7 T47 (record { pos = 12; st = []; d = 0; at = λ x. x }, tt) (m35 record { before = c.before; copy-in = c.copy-in } g) g' }))
+        lay3 = λ c. (refl, λ g. (told-by-requires record { before = record { before = c.before; copy-in = c.copy-in }; ts = record { given = g } }, λ g'. lay4 record { before = record { before = record { before = c.before; copy-in = c.copy-in }; ts = record { given = g } }; told-by = called ps·3 r·3 claims·.7 T47 (record { pos = 12; st = []; d = 0; at = λ x. x }, tt) (m35 record { before = c.before; copy-in = c.copy-in } g) g' }))
 
         lay2 : (c : After-answer) → at24 c.before.before.before.before.before.before.before.before.before.before.before.blocks (W0 c.before.before.before.before.before.before.before.before.before.before.before.κs c.before.before.before.before.before.before.before.before.before.before.before.args c.before.before.before.before.before.before.before.before.before.before.before.blocks) (m21 c.before (After-answer·gave c))
         lay2 = λ c. (refl, λ g. λ g'. (refl, λ g''. λ g'3. (tt, λ g'4. (tt, λ g'5. λ g'6. (refl, (copy-in-requires record { before = record { before = record { before = record { before = record { before = record { before = record { before = record { before = c.before; answer = c.answer }; room = record { given = g } }; slice-known3 = record { given = g' } }; out = record { given = g'' } }; slice-known4 = record { given = g'3 } }; after = record { given = g'4 } }; next = record { given = g'5 } }; copy-in-arg = record { given = g'6 } }, λ g'7. lay3 record { before = record { before = record { before = record { before = record { before = record { before = record { before = record { before = record { before = c.before; answer = c.answer }; room = record { given = g } }; slice-known3 = record { given = g' } }; out = record { given = g'' } }; slice-known4 = record { given = g'3 } }; after = record { given = g'4 } }; next = record { given = g'5 } }; copy-in-arg = record { given = g'6 } }; copy-in = called ps·2 r·2 claims·.5 T42 (record { pos = 23; ty = ty_ref erased mut (pointee the_row.written); ref = λ x. x }, (record { pos = 14; st = []; d = 0; at = λ x. x }, tt)) (m31 record { before = record { before = record { before = record { before = record { before = record { before = record { before = c.before; answer = c.answer }; room = record { given = g } }; slice-known3 = record { given = g' } }; out = record { given = g'' } }; slice-known4 = record { given = g'3 } }; after = record { given = g'4 } }; next = record { given = g'5 } } g'6) g'7 }))))))

@@ -1,6 +1,6 @@
 -- `desk_rows::journal::take_line` meets its contract: a remark is passed over, an event answered.
 -- Assumes nothing.
-use Rattle.desk_rows.proofs.Remarks.{line-passed, line-answered}
+use Rattle.desk_rows.proofs.Remarks.{line_passed, line_answered}
 use borrow.Author.Rules.{rules}
 use Rattle.desk_rows.proofs.journal.take_line.Statement.{statement}
 use Rattle.desk_rows.proofs.journal.take_line.Tie as tie
@@ -19,7 +19,7 @@ returns : tie.Need-returns
 returns c =
     let f = c.before in
     let a = (start f).args in
-    line-passed a.row a.lasts _ a.room.now a.out.now a.line.now _ f.is-remark.ensures c.if1.true
+    line_passed a.row a.lasts _ a.room.now a.out.now a.line.now _ f.is-remark.ensures c.if1.true
 
 answer-held-requires : tie.Need-answer-held-requires
 answer-held-requires c κs = search rules
@@ -36,7 +36,7 @@ returns-2 c =
     let e = other w in
     let f = e.before in
     let a = (start f).args in
-    line-answered a.row a.lasts _ a.room.now a.out.now a.line.now _ f.is-remark.ensures _ _ _ e.if1.left w.answer-held.ensures
+    line_answered a.row a.lasts _ a.room.now a.out.now a.line.now _ f.is-remark.ensures _ _ _ e.if1.left w.answer-held.ensures
 
 pub take-line-spec : {M : Type 1} → statement M
 take-line-spec =

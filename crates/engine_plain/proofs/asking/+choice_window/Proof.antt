@@ -11,8 +11,8 @@ use borrow.Fn.Kinds.{In}
 use borrow.Fn.PlainCycle.{Measures, is, falls, and}
 use borrow.Author.Rules.{rules, scaled_Fits}
 use Rattle.runs.specs.Run.{last_place, highest_turn, most_reads}
-use Rattle.engine_plain.proofs.Sizes.{asked-early}
-use Rattle.engine_plain.proofs.Windows.{some_stop, row_in, reads_fit, skipped-few, asked-inner, asked-rest, asked-from, two-fit, skip-so, skip-fits, detour-part-fits, detour-so, detour-fits, no-window, WindowLoop, may_skip, may_detour, window-starts, window-turn, window-ends}
+use Rattle.engine_plain.proofs.Sizes.{asked_early}
+use Rattle.engine_plain.proofs.Windows.{some_stop, row_in, reads_fit, skipped_few, asked_inner, asked_rest, asked_from, two_fit, skip_so, skip_fits, detour_part_fits, detour_so, detour_fits, no_window, WindowLoop, may_skip, may_detour, window_starts, window_turn, window_ends}
 use Rattle.engine_plain.proofs.asking.choice.Reads as choice
 use Rattle.engine_plain.proofs.asking.choice.Kinds as choice-kinds
 use Rattle.engine_plain.proofs.asking.+choice_window.Lts-choice as choice-lts
@@ -98,7 +98,7 @@ choice-shared-slice-read-skipped t c =
 choice-add-skipped : (t : ℕ) → choice-lts.Need-overflow-add-skipped (choice-calls t) (choice-at t) choice.Post
 choice-add-skipped t c =
     let z = c.before.before.before.before in
-    reads_fit _ (skipped-few _ _ _ _ _ _ _ z.requires.1.0)
+    reads_fit _ (skipped_few _ _ _ _ _ _ _ z.requires.1.0)
 
 -- The way back from a place in the code to the one that the name says.
 abbrev choice-at-start : (t : ℕ) → choice-lts.After-shared-slice-known4 (choice-calls t) (choice-at t) choice.Post → choice-lts.Start (choice-calls t) (choice-at t) choice.Post
@@ -115,7 +115,7 @@ window-at-start t c = c.before.before.before.before.before.before.before
 choice-early-of-requires : (t : ℕ) → choice-lts.Need-early-of-requires (choice-calls t) (choice-at t) choice.Post
 choice-early-of-requires t c κs =
     let z = choice-at-start t c.before in
-    asked-early _ _ _ _ _ _ _ z.pre.1.0 _ (le_of_lt z.pre.1.1.some)
+    asked_early _ _ _ _ _ _ _ z.pre.1.0 _ (le_of_lt z.pre.1.1.some)
 
 choice-sub-window : (t : ℕ) → choice-lts.Need-overflow-sub-window (choice-calls t) (choice-at t) choice.Post
 choice-sub-window t c =
@@ -125,33 +125,33 @@ choice-sub-window t c =
 choice-window-requires : (t : ℕ) → choice-lts.Need-window-requires (choice-calls t) (choice-at t) choice.Post
 choice-window-requires t c κs =
     let z = choice-at-start t c.before.before in
-    (skip-falls _ _ _ z.pre.0 z.pre.1.1.some, asked-inner _ _ _ _ _ _ _ z.pre.1.0 _ (some_stop _ _ z.pre.1.1.some))
+    (skip-falls _ _ _ z.pre.0 z.pre.1.1.some, asked_inner _ _ _ _ _ _ _ z.pre.1.0 _ (some_stop _ _ z.pre.1.1.some))
 
 choice-add-result : (t : ℕ) → choice-lts.Need-overflow-add-result (choice-calls t) (choice-at t) choice.Post
 choice-add-result t c =
     let z = choice-at-start t c.before.before.before in
-    choice-fits _ _ (skip-fits _ _ _ _ _ _ _ z.pre.1.0 _ _ c.before.early-of.ensures c.window.ensures (some_stop _ _ z.pre.1.1.some)) z.pre.1.0.laid.cheap
+    choice-fits _ _ (skip_fits _ _ _ _ _ _ _ z.pre.1.0 _ _ c.before.early-of.ensures c.window.ensures (some_stop _ _ z.pre.1.1.some)) z.pre.1.0.laid.cheap
 
 choice-returns : (t : ℕ) → choice-lts.Need-returns (choice-calls t) (choice-at t) choice.Post
 choice-returns t c =
     let z = choice-at-start t c.before.before.before in
-    rw c.before.before.if1.true (skip-so _ _ _ _ _ _ _ z.pre.1.0 _ _ c.before.early-of.ensures c.window.ensures (some_stop _ _ z.pre.1.1.some))
+    rw c.before.before.if1.true (skip_so _ _ _ _ _ _ _ z.pre.1.0 _ _ c.before.early-of.ensures c.window.ensures (some_stop _ _ z.pre.1.1.some))
 
 choice-wait-of-requires : (t : ℕ) → choice-lts.Need-wait-of-requires (choice-calls t) (choice-at t) choice.Post
 choice-wait-of-requires t c κs =
     let z = choice-at-start t c.before in
-    (asked-from _ _ _ _ _ _ _ z.pre.1.0 _, z.pre.1.1.up_to)
+    (asked_from _ _ _ _ _ _ _ z.pre.1.0 _, z.pre.1.1.up_to)
 
 choice-early-of-requires-2 : (t : ℕ) → choice-lts.Need-early-of-requires-2 (choice-calls t) (choice-at t) choice.Post
 choice-early-of-requires-2 t c κs =
     let z = choice-at-start t c.before.before in
-    asked-early _ _ _ _ _ _ _ z.pre.1.0 _ z.pre.1.1.up_to
+    asked_early _ _ _ _ _ _ _ z.pre.1.0 _ z.pre.1.1.up_to
 
 choice-add-result-2 : (t : ℕ) → choice-lts.Need-overflow-add-result-2 (choice-calls t) (choice-at t) choice.Post
 choice-add-result-2 t c =
     let z = choice-at-start t c.before.before.before in
-    let q = asked-from _ _ _ _ _ _ _ z.pre.1.0 z.args.c in
-    front_fits _ (two-fit _ _ _ _ _ _ _ q _ _ c.before.wait-of.ensures c.early-of2.ensures z.pre.1.1.up_to)
+    let q = asked_from _ _ _ _ _ _ _ z.pre.1.0 z.args.c in
+    front_fits _ (two_fit _ _ _ _ _ _ _ q _ _ c.before.wait-of.ensures c.early-of2.ensures z.pre.1.1.up_to)
 
 choice-sub-window-2 : (t : ℕ) → choice-lts.Need-overflow-sub-window-2 (choice-calls t) (choice-at t) choice.Post
 choice-sub-window-2 t c =
@@ -162,13 +162,13 @@ choice-window-requires-2 : (t : ℕ) → choice-lts.Need-window-requires-2 (choi
 choice-window-requires-2 t c κs =
     let z = choice-at-start t c.before.before.before in
     let m = z.pre.1.1 in
-    (inner-falls _ _ _ _ z.pre.0 (m.after (start-some _ c.before.before.if1.false)) m.up_to, asked-inner _ _ _ _ _ _ _ z.pre.1.0 _ (some_stop _ _ m.some))
+    (inner-falls _ _ _ _ z.pre.0 (m.after (start-some _ c.before.before.if1.false)) m.up_to, asked_inner _ _ _ _ _ _ _ z.pre.1.0 _ (some_stop _ _ m.some))
 
 choice-add-result-3 : (t : ℕ) → choice-lts.Need-overflow-add-result-3 (choice-calls t) (choice-at t) choice.Post
 choice-add-result-3 t c =
     let z = choice-at-start-from-window2 t c in
     choice-fits _ _
-    (detour-part-fits _ _ _ _ _ _ _ z.pre.1.0 _ _ _ _ c.before.before.wait-of.ensures c.before.early-of2.ensures c.window2.ensures z.pre.1.1 c.before.before.before.if1.false)
+    (detour_part_fits _ _ _ _ _ _ _ z.pre.1.0 _ _ _ _ c.before.before.wait-of.ensures c.before.early-of2.ensures c.window2.ensures z.pre.1.1 c.before.before.before.if1.false)
     z.pre.1.0.laid.cheap
 
 choice-sub-window-3 : (t : ℕ) → choice-lts.Need-overflow-sub-window-3 (choice-calls t) (choice-at t) choice.Post
@@ -181,27 +181,27 @@ choice-window-requires-3 t c κs =
     let z = choice-at-start t e1.before in
     let m = z.pre.1.1 in
     let some = start-some _ e1.if1.false in
-    (rest-falls _ _ _ _ z.pre.0 (m.after some) m.up_to, asked-rest _ _ _ _ _ _ _ z.pre.1.0 _ some m.up_to)
+    (rest-falls _ _ _ _ z.pre.0 (m.after some) m.up_to, asked_rest _ _ _ _ _ _ _ z.pre.1.0 _ some m.up_to)
 
 choice-add-result-4 : (t : ℕ) → choice-lts.Need-overflow-add-result-4 (choice-calls t) (choice-at t) choice.Post
 choice-add-result-4 t c =
     let wo = c.before.before.before in
     let z = choice-at-start t wo.before.before in
     choice-fits _ _
-    (detour-fits _ _ _ _ _ _ _ z.pre.1.0 _ _ _ _ wo.wait-of.ensures c.before.before.early-of2.ensures c.before.window2.ensures z.pre.1.1 wo.before.if1.false _ c.window3.ensures)
+    (detour_fits _ _ _ _ _ _ _ z.pre.1.0 _ _ _ _ wo.wait-of.ensures c.before.before.early-of2.ensures c.before.window2.ensures z.pre.1.1 wo.before.if1.false _ c.window3.ensures)
     z.pre.1.0.laid.cheap
 
 choice-returns-2 : (t : ℕ) → choice-lts.Need-returns-2 (choice-calls t) (choice-at t) choice.Post
 choice-returns-2 t c =
     let wo = c.before.before.before in
     let z = choice-at-start t wo.before.before in
-    detour-so _ _ _ _ _ _ _ z.pre.1.0 _ _ _ _ wo.wait-of.ensures c.before.before.early-of2.ensures c.before.window2.ensures z.pre.1.1
+    detour_so _ _ _ _ _ _ _ z.pre.1.0 _ _ _ _ wo.wait-of.ensures c.before.before.early-of2.ensures c.before.window2.ensures z.pre.1.1
     wo.before.if1.false _ c.window3.ensures
 
 window-returns : (t : ℕ) → window-lts.Need-returns (window-calls t) (window-at t) window.Post window-Inv-loop window-μ-loop
 window-returns t c =
     let z = c.before.before.before.before in
-    no-window _ _ _ _ _ _ _ z.requires.1 c.if1.true
+    no_window _ _ _ _ _ _ _ z.requires.1 c.if1.true
 
 window-choice-requires : (t : ℕ) → window-lts.Need-choice-requires (window-calls t) (window-at t) window.Post window-Inv-loop window-μ-loop
 window-choice-requires t c κs =
@@ -210,7 +210,7 @@ window-choice-requires t c κs =
 
 window-loop-holds : (t : ℕ) → window-lts.Need-loop-init (window-calls t) (window-at t) window.Post window-Inv-loop window-μ-loop
 window-loop-holds t c =
-    window-starts _ _ _ _ _ _ _ c.before.if1.false _ c.choice.ensures
+    window_starts _ _ _ _ _ _ _ c.before.if1.false _ c.choice.ensures
 
 window-choice-requires-2 : (t : ℕ) → window-lts.Need-choice-requires-2 (window-calls t) (window-at t) window.Post window-Inv-loop window-μ-loop
 window-choice-requires-2 t c κs =
@@ -232,11 +232,11 @@ window-loop-less t c =
 
 window-loop-again : (t : ℕ) → window-lts.Need-loop-preserved (window-calls t) (window-at t) window.Post window-Inv-loop window-μ-loop
 window-loop-again t c =
-    window-turn _ _ _ _ _ _ _ _ _ c.before.before.before.loop.invariant c.before.before.loop-test.true _ _ c.before.choice2.ensures c.lower_of.ensures
+    window_turn _ _ _ _ _ _ _ _ _ c.before.before.before.loop.invariant c.before.before.loop-test.true _ _ c.before.choice2.ensures c.lower_of.ensures
 
 window-returns-2 : (t : ℕ) → window-lts.Need-returns-2 (window-calls t) (window-at t) window.Post window-Inv-loop window-μ-loop
 window-returns-2 t c =
-    window-ends _ _ _ _ _ _ _ _ _ c.before.loop.invariant c.loop-test.false
+    window_ends _ _ _ _ _ _ _ _ _ c.before.loop.invariant c.loop-test.false
 
 pub +choice-window-spec : {M : Type 1} → statement M
 +choice-window-spec =

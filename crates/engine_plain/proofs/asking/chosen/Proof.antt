@@ -1,7 +1,7 @@
 -- `engine_plain::asking::chosen` meets its contract: before each turn the choice kept is the first of those passed that comes to the least.
 -- Assumes nothing.
 use native.Mathlib.Omega.{arith}
-use Rattle.engine_plain.proofs.Windows.{ChosenLoop, may_skip, may_detour, chosen-starts, chosen-turn, chosen-ends}
+use Rattle.engine_plain.proofs.Windows.{ChosenLoop, may_skip, may_detour, chosen_starts, chosen_turn, chosen_ends}
 use borrow.Author.Rules.{rules}
 use Rattle.engine_plain.proofs.asking.chosen.Statement.{statement}
 use Rattle.engine_plain.proofs.asking.chosen.Tie as tie
@@ -16,7 +16,7 @@ choice-requires : tie.Need-choice-requires invariant-loop decreases-loop
 choice-requires c κs = let z = c.before.before.before in (z.requires.0, may_skip _ _ z.requires.1)
 
 loop-holds : tie.Need-loop-init invariant-loop decreases-loop
-loop-holds c = chosen-starts _ _ _ _ _ _ _ c.before.before.before.before.requires.1 _ c.choice.ensures
+loop-holds c = chosen_starts _ _ _ _ _ _ _ c.before.before.before.before.requires.1 _ c.choice.ensures
 
 choice-requires-2 : tie.Need-choice-requires-2 invariant-loop decreases-loop
 choice-requires-2 c κs = let z = c.before.before.before.before.before.before in (z.requires.0, may_detour _ _ _ z.requires.1 c.before.loop.invariant.up_to c.loop-test.true)
@@ -35,10 +35,10 @@ loop-less c = omega (arith, c.before.before.before.loop-test.true)
 
 loop-again : tie.Need-loop-preserved invariant-loop decreases-loop
 loop-again c =
-    chosen-turn _ _ _ _ _ _ _ _ _ _ c.before.before.before.before.loop.invariant c.before.before.before.loop-test.true _ _ _ c.before.before.choice2.ensures c.before.sooner-of.ensures c.lower_of.ensures
+    chosen_turn _ _ _ _ _ _ _ _ _ _ c.before.before.before.before.loop.invariant c.before.before.before.loop-test.true _ _ _ c.before.before.choice2.ensures c.before.sooner-of.ensures c.lower_of.ensures
 
 returns : tie.Need-returns invariant-loop decreases-loop
-returns c = chosen-ends _ _ _ _ _ _ _ _ _ _ c.before.loop.invariant c.loop-test.false
+returns c = chosen_ends _ _ _ _ _ _ _ _ _ _ c.before.loop.invariant c.loop-test.false
 
 pub chosen-spec : {M : Type 1} → statement M
 chosen-spec =

@@ -10,8 +10,8 @@ use mir.Val.{Fits}
 use borrow.Fn.Kinds.{In}
 use borrow.Fn.PlainCycle.{Measures, is, falls, and}
 use borrow.Author.Rules.{scaled_Fits}
-use Rattle.engine_plain.proofs.Windows.{some_stop, row_in, reads_fit, skipped-few, asked-inner, asked-rest}
-use Rattle.engine_plain.proofs.Listed.{none_written, fits-skip, skip-written, inside, fits-inner, from_in, to_in, fits-rest, detour-written}
+use Rattle.engine_plain.proofs.Windows.{some_stop, row_in, reads_fit, skipped_few, asked_inner, asked_rest}
+use Rattle.engine_plain.proofs.Listed.{none_written, fits_skip, skip_written, inside, fits_inner, from_in, to_in, fits_rest, detour_written}
 use Rattle.engine_plain.proofs.writing.write_window.Reads as write-window
 use Rattle.engine_plain.proofs.writing.write_window.Kinds as write-window-kinds
 use Rattle.engine_plain.proofs.writing.+write_window.Lts-write_window as write-window-lts
@@ -150,7 +150,7 @@ write-window-shared-slice-read-skipped t c =
 write-window-add-skipped : (t : ℕ) → write-window-lts.Need-overflow-add-skipped (write-window-calls t) (write-window-at t) write-window.Post
 write-window-add-skipped t c =
     let z = at-start t c.before.before in
-    reads_fit _ (skipped-few _ _ _ _ _ _ _ z.pre.1.0)
+    reads_fit _ (skipped_few _ _ _ _ _ _ _ z.pre.1.0)
 
 write-window-sub-write-window : (t : ℕ) → write-window-lts.Need-overflow-sub-write-window (write-window-calls t) (write-window-at t) write-window.Post
 write-window-sub-write-window t c =
@@ -162,8 +162,8 @@ write-window-write-window-requires t c κs =
     let z = at-start t chosen.before in (
       skip-falls _ _ _ z.pre.0 chosen.before.if1.false,
       (
-        asked-inner _ _ _ _ _ _ _ z.pre.1.0 _ (some_stop _ _ chosen.before.if1.false),
-        fits-skip _ _ _ _ _ _ _ _ _ _ _ _ z.pre.1.0 z.pre.1.1 chosen.before.if1.false chosen.chosen.ensures,
+        asked_inner _ _ _ _ _ _ _ z.pre.1.0 _ (some_stop _ _ chosen.before.if1.false),
+        fits_skip _ _ _ _ _ _ _ _ _ _ _ _ z.pre.1.0 z.pre.1.1 chosen.before.if1.false chosen.chosen.ensures,
       ),
     )
 
@@ -181,7 +181,7 @@ write-window-returns-2 t c =
     let t2 = ww.before.before.before in
     let e1 = t2.before.before.before in
     let z = at-start t e1 in
-    skip-written _ _ _ _ _ _ _ _ _ _ _ _ z.pre.1.0 z.pre.1.1 e1.if1.false t2.before.before.chosen.ensures t2.if2.true _ _ _ ww.write-window.ensures
+    skip_written _ _ _ _ _ _ _ _ _ _ _ _ z.pre.1.0 z.pre.1.1 e1.if1.false t2.before.before.chosen.ensures t2.if2.true _ _ _ ww.write-window.ensures
 
 write-window-sub-write-window-2 : (t : ℕ) → write-window-lts.Need-overflow-sub-write-window-2 (write-window-calls t) (write-window-at t) write-window.Post
 write-window-sub-write-window-2 t c =
@@ -194,8 +194,8 @@ write-window-write-window-requires-2 t c κs =
     let z = at-start t chosen.before in (
       inner-falls _ _ _ _ z.pre.0 (found t e2).0 (found t e2).1,
       (
-        asked-inner _ _ _ _ _ _ _ z.pre.1.0 _ (some_stop _ _ chosen.before.if1.false),
-        fits-inner _ _ _ _ _ _ _ _ _ _ _ _ z.pre.1.0 z.pre.1.1 chosen.before.if1.false chosen.chosen.ensures e2.if2.false,
+        asked_inner _ _ _ _ _ _ _ z.pre.1.0 _ (some_stop _ _ chosen.before.if1.false),
+        fits_inner _ _ _ _ _ _ _ _ _ _ _ _ z.pre.1.0 z.pre.1.1 chosen.before.if1.false chosen.chosen.ensures e2.if2.false,
       ),
     )
 
@@ -255,8 +255,8 @@ write-window-write-window-requires-3 t c κs =
     let z = at-start t chosen.before in (
       rest-falls _ _ _ _ z.pre.0 (found t e2).0 (found t e2).1,
       (
-        asked-rest _ _ _ _ _ _ _ z.pre.1.0 _ (some_stop _ _ (found t e2).0) (found t e2).1,
-        fits-rest _ _ _ _ _ _ _ _ _ _ _ _ z.pre.1.0 z.pre.1.1 chosen.before.if1.left chosen.chosen.ensures e2.if2.left _ _ _ ww2.write-window2.ensures
+        asked_rest _ _ _ _ _ _ _ z.pre.1.0 _ (some_stop _ _ (found t e2).0) (found t e2).1,
+        fits_rest _ _ _ _ _ _ _ _ _ _ _ _ z.pre.1.0 z.pre.1.1 chosen.before.if1.left chosen.chosen.ensures e2.if2.left _ _ _ ww2.write-window2.ensures
             _ _,
       ),
     )
@@ -275,7 +275,7 @@ write-window-returns-3 t c =
     let e2 = ww2.before.before.before in
     let e1 = e2.before.before.before in
     let z = at-start t e1 in
-    detour-written _ _ _ _ _ _ _ _ _ _ _ _ z.pre.1.0 z.pre.1.1 e1.if1.left e2.before.before.chosen.ensures e2.if2.left _ _ _
+    detour_written _ _ _ _ _ _ _ _ _ _ _ _ z.pre.1.0 z.pre.1.1 e1.if1.left e2.before.before.chosen.ensures e2.if2.left _ _ _
     ww2.write-window2.ensures _ _ _ (at-write-window3 t c).write-window3.ensures
 
 pub +write-window-spec : {M : Type 1} → statement M

@@ -1,6 +1,6 @@
 -- `engine_plain::writing::write_list` meets its contract: the window of all stops behind the first.
 -- Assumes nothing.
-use Rattle.engine_plain.proofs.Listed.{whole-none, whole-asked, whole-fits}
+use Rattle.engine_plain.proofs.Listed.{whole_none, whole_asked, whole_fits}
 use borrow.Author.Rules.{rules}
 use Rattle.engine_plain.proofs.writing.write_list.Statement.{statement}
 use Rattle.engine_plain.proofs.writing.write_list.Tie as tie
@@ -12,7 +12,7 @@ at-start c = c.before.before.before.before.before.before
 returns : tie.Need-returns
 returns c =
     let z = at-start c.before in
-    whole-none _ _ _ _ _ z.pre.0 _ _ c.if1.true
+    whole_none _ _ _ _ _ z.pre.0 _ _ c.if1.true
 
 sub-write-window : tie.Need-overflow-sub-write-window
 sub-write-window c = search rules
@@ -21,7 +21,7 @@ write-window-requires : tie.Need-write-window-requires
 write-window-requires c κs =
     let e1 = c.before.before in
     let z = at-start e1.before in
-    (whole-asked _ _ _ _ _ z.pre.0 e1.if1.false, whole-fits _ _ _ _ _ z.pre.0 _ _ e1.if1.false z.pre.1.0 z.pre.1.1)
+    (whole_asked _ _ _ _ _ z.pre.0 e1.if1.false, whole_fits _ _ _ _ _ z.pre.0 _ _ e1.if1.false z.pre.1.0 z.pre.1.1)
 
 same_length : tie.Need-same-length
 same_length c = c.before.before.before.before.write-window.auto.1.1.1.1.1.1.1.1.0

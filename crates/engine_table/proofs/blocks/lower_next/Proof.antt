@@ -1,4 +1,4 @@
-use Rattle.engine_table.proofs.Laying.{fewer-fit, next-laid}
+use Rattle.engine_table.proofs.Laying.{fewer_fit, next_laid}
 use borrow.Author.Rules.{rules}
 use Rattle.engine_table.proofs.blocks.lower_next.Statement.{statement}
 use Rattle.engine_table.proofs.blocks.lower_next.Tie as tie
@@ -15,7 +15,7 @@ falling-requires c κs = search rules
 lower-words-requires : tie.Need-lower-words-requires
 lower-words-requires c κs =
     let z = c.before.before.before.before.before in
-    fewer-fit _ _ _ _ _ _ _ z.requires.0 _ c.before.falling.ensures.within
+    fewer_fit _ _ _ _ _ _ _ z.requires.0 _ c.before.falling.ensures.within
 
 add-result : tie.Need-overflow-add-result
 add-result c = search rules
@@ -28,7 +28,7 @@ returns c =
     let w = c.before.before in
     let f = w.before.before in
     let z = f.before.before.before.before in
-    next-laid _ _ _ _ _ _ _ z.requires.0 _ _ f.before.unlowered.ensures f.falling.ensures z.requires.1.1 _ w.lower-words.ensures
+    next_laid _ _ _ _ _ _ _ z.requires.0 _ _ f.before.unlowered.ensures f.falling.ensures z.requires.1.1 _ w.lower-words.ensures
 
 pub lower-next-spec : {M : Type 1} → statement M
 lower-next-spec =

@@ -3,7 +3,7 @@ use native.Mathlib.Omega.{arith}
 use Prim.Native.Nat.{◌-◌, ◌≤◌}
 use Rattle.engine_table.specs.Private.{Written, lowered}
 use Rattle.engine_table.proofs.Words.{written_none, written_all}
-use Rattle.engine_table.proofs.Laying.{wait-here, left-fits, left-edges, loop-laid}
+use Rattle.engine_table.proofs.Laying.{wait_here, left_fits, left_edges, loop_laid}
 use Rattle.engine_table.proofs.blocks.lower_row.Statement.{statement}
 use Rattle.engine_table.proofs.blocks.lower_row.Tie as tie
 
@@ -23,13 +23,13 @@ mul-wait : tie.Need-overflow-mul-wait invariant-loop decreases-loop
 mul-wait c =
     let l = c.before in
     let z = l.before.before in
-    omega (arith, wait-here _ _ _ _ _ _ _ z.requires.0 z.requires.1 _ _ c.loop-test.true l.loop.invariant.1)
+    omega (arith, wait_here _ _ _ _ _ _ _ z.requires.0 z.requires.1 _ _ c.loop-test.true l.loop.invariant.1)
 
 add-wait : tie.Need-overflow-add-wait invariant-loop decreases-loop
 add-wait c =
     let l = c.before in
     let z = l.before.before in
-    omega (arith, wait-here _ _ _ _ _ _ _ z.requires.0 z.requires.1 _ _ c.loop-test.true l.loop.invariant.1)
+    omega (arith, wait_here _ _ _ _ _ _ _ z.requires.0 z.requires.1 _ _ c.loop-test.true l.loop.invariant.1)
 
 add-lower-next : tie.Need-overflow-add-lower-next invariant-loop decreases-loop
 add-lower-next c = search rules
@@ -48,8 +48,8 @@ lower-next-requires c κs =
     let l = c.before.before in
     let z = l.before.before in
     let t = c.before.loop-test.true in (
-      left-fits _ _ _ _ _ _ _ z.requires.0 z.requires.1 _ _ t l.loop.invariant.1,
-      (left-edges _ _ _ _ _ _ _ z.requires.0 z.requires.1 _ _ t l.loop.invariant.1, search rules),
+      left_fits _ _ _ _ _ _ _ z.requires.0 z.requires.1 _ _ t l.loop.invariant.1,
+      (left_edges _ _ _ _ _ _ _ z.requires.0 z.requires.1 _ _ t l.loop.invariant.1, search rules),
     )
 
 add-i : tie.Need-overflow-add-i invariant-loop decreases-loop
@@ -64,7 +64,7 @@ loop-again c =
     let l = a.before.before.before in
     let z = l.before.before in (
       search rules,
-      loop-laid _ _ _ _ _ _ _ z.requires.0 z.requires.1 _ _ a.before.before.loop-test.true l.loop.invariant.1 _ _ a.lower-next.ensures,
+      loop_laid _ _ _ _ _ _ _ z.requires.0 z.requires.1 _ _ a.before.before.loop-test.true l.loop.invariant.1 _ _ a.lower-next.ensures,
     )
 
 same_length : tie.Need-same-length invariant-loop decreases-loop

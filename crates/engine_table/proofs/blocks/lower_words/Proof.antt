@@ -6,7 +6,7 @@ use native.Mathlib.Omega.{arith}
 use native.Mathlib.Nat.{le_of_eq, le_antisymm, lt_of_le_of_lt}
 use lib.ListN.{length, get_or}
 use Rattle.engine_table.specs.Private.{Written, lowered}
-use Rattle.engine_table.proofs.Words.{written_none, sum-here, row-lowered, written_all, word_inside, place_inside_fits, place_inside_bytes, word_next_fits}
+use Rattle.engine_table.proofs.Words.{written_none, sum_here, row_lowered, written_all, word_inside, place_inside_fits, place_inside_bytes, word_next_fits}
 use Rattle.engine_table.proofs.blocks.lower_words.Statement.{statement}
 use Rattle.engine_table.proofs.blocks.lower_words.Tie as tie
 
@@ -44,7 +44,7 @@ sum_fits : (i : tie.In-loop invariant-loop decreases-loop) → let a = (at-start
 sum_fits i =
     let z = at-start i in
     let l = i.before in
-    lt_of_le_of_lt (le_of_eq (sum-here _ _ _ _ _ _ _ z.pre _ _ _ l.loop.invariant.2 l.loop.invariant.1 i.loop-test.true)) (z.pre.fits l.loop.s i.loop-test.true)
+    lt_of_le_of_lt (le_of_eq (sum_here _ _ _ _ _ _ _ z.pre _ _ _ l.loop.invariant.2 l.loop.invariant.1 i.loop-test.true)) (z.pre.fits l.loop.s i.loop-test.true)
 
 loop-holds : tie.Need-loop-init invariant-loop decreases-loop
 loop-holds c = (zero≤, wait_first _ _, written_none _ _ _)
@@ -113,7 +113,7 @@ loop-again c =
     let l = i.before in (
       one_on _ _ i.loop-test.taken,
       omega arith,
-      row-lowered _ _ _ _ _ _ _ (at-start i).pre _ _ _ l.loop.inv.2 l.loop.inv.1 i.loop-test.taken _ c.lower_of.ensures,
+      row_lowered _ _ _ _ _ _ _ (at-start i).pre _ _ _ l.loop.inv.2 l.loop.inv.1 i.loop-test.taken _ c.lower_of.ensures,
     )
 
 same_length : tie.Need-same-length invariant-loop decreases-loop

@@ -2,7 +2,7 @@ use Prim.Native.Nat.{◌+◌, ◌*◌, ◌<◌, ◌^◌}
 use native.Mathlib.Omega.{arith}
 use lib.ListN.{length}
 use Rattle.engine_table.proofs.Words.{first_inside, second_inside, place_inside_fits, place_inside_bytes}
-use Rattle.engine_table.proofs.Laying.{none_stay, word_fits, first_within, end_within, last_within_lem, last_there, step-up, tangent-fits, rise-fits, line-fits, trips-fit, all_stay, block-stays}
+use Rattle.engine_table.proofs.Laying.{none_stay, word_fits, first_within, end_within, last_within_lem, last_there, step_up, tangent_fits, rise_fits, line_fits, trips_fit, all_stay, block_stays}
 use borrow.Author.Rules.{rules}
 use Rattle.engine_table.proofs.blocks.unlowered.Statement.{statement}
 use Rattle.engine_table.proofs.blocks.unlowered.Tie as tie
@@ -55,7 +55,7 @@ sub-step : tie.Need-overflow-sub-step
 sub-step c =
     let e = c.before.before.before.before in
     let z = e.before.before in
-    step-up _ _ _ _ _ _ _ z.requires.0 z.requires.1 e.if1.false
+    step_up _ _ _ _ _ _ _ z.requires.0 z.requires.1 e.if1.false
 
 sub-far : tie.Need-overflow-sub-far
 sub-far c = first_within _ c.before.before.before.before.if1.false
@@ -64,25 +64,25 @@ mul-if3 : tie.Need-overflow-mul-if3
 mul-if3 c =
     let e = c.before.before.before.before in
     let z = e.before.before in
-    omega (arith, rise-fits _ _ _ _ _ _ _ z.requires.0 z.requires.1 e.if1.false _ (end_within _ e.if1.false))
+    omega (arith, rise_fits _ _ _ _ _ _ _ z.requires.0 z.requires.1 e.if1.false _ (end_within _ e.if1.false))
 
 add-if3 : tie.Need-overflow-add-if3
 add-if3 c =
     let e = c.before.before.before.before in
     let z = e.before.before in
-    omega (arith, tangent-fits _ _ _ _ _ _ _ z.requires.0 z.requires.1 e.if1.false _ (end_within _ e.if1.false))
+    omega (arith, tangent_fits _ _ _ _ _ _ _ z.requires.0 z.requires.1 e.if1.false _ (end_within _ e.if1.false))
 
 mul-if3-2 : tie.Need-overflow-mul-if3-2
 mul-if3-2 c =
     let e = c.before.before.before.before in
     let z = e.before.before in
-    record { fits = trips-fit _ _ _ _ _ _ _ z.requires.0 z.requires.1 e.if1.false _ c.before.before.choice-word.ensures }
+    record { fits = trips_fit _ _ _ _ _ _ _ z.requires.0 z.requires.1 e.if1.false _ c.before.before.choice-word.ensures }
 
 add-if3-2 : tie.Need-overflow-add-if3-2
 add-if3-2 c =
     let e = c.before.before.before.before in
     let z = e.before.before in
-    record { fits = line-fits _ _ _ _ _ _ _ z.requires.0 z.requires.1 e.if1.false _ c.before.before.choice-word.ensures }
+    record { fits = line_fits _ _ _ _ _ _ _ z.requires.0 z.requires.1 e.if1.false _ c.before.before.choice-word.ensures }
 
 returns-3 : tie.Need-returns-3
 returns-3 c =
@@ -105,14 +105,14 @@ mul-if4 c =
     let k = c in
     let e = k.before.before.before.before.before.before in
     let z = e.before.before in
-    record { fits = rise-fits _ _ _ _ _ _ _ z.requires.0 z.requires.1 e.if1.false _ (last_within_lem _ _ e.if1.false k.Block-of.ensures) }
+    record { fits = rise_fits _ _ _ _ _ _ _ z.requires.0 z.requires.1 e.if1.false _ (last_within_lem _ _ e.if1.false k.Block-of.ensures) }
 
 add-if4 : tie.Need-overflow-add-if4
 add-if4 c =
     let k = c in
     let e = k.before.before.before.before.before.before in
     let z = e.before.before in
-    record { fits = tangent-fits _ _ _ _ _ _ _ z.requires.0 z.requires.1 e.if1.false _ (last_within_lem _ _ e.if1.false k.Block-of.ensures) }
+    record { fits = tangent_fits _ _ _ _ _ _ _ z.requires.0 z.requires.1 e.if1.false _ (last_within_lem _ _ e.if1.false k.Block-of.ensures) }
 
 choice-word-requires-2 : tie.Need-choice-word-requires-2
 choice-word-requires-2 c κs =
@@ -129,7 +129,7 @@ returns-4 c =
     let k = c.before.before in
     let e = k.before.before.before.before.before.before in
     let z = e.before.before in
-    block-stays _ _ _ _ _ _ _ z.requires.0 z.requires.1 e.if1.false _ k.before.before.before.before.choice-word.ensures _ _ (last_within_lem _ _ e.if1.false k.Block-of.ensures) c.before.choice-word2.ensures k.before.before.before.if2.false c.if4.true
+    block_stays _ _ _ _ _ _ _ z.requires.0 z.requires.1 e.if1.false _ k.before.before.before.before.choice-word.ensures _ _ (last_within_lem _ _ e.if1.false k.Block-of.ensures) c.before.choice-word2.ensures k.before.before.before.if2.false c.if4.true
 
 returns-5 : tie.Need-returns-5
 returns-5 c = none_stay _ _ _ _ _ _ _

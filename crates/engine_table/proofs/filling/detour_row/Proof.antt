@@ -1,6 +1,6 @@
 use Rattle.engine_table.proofs.Sizes.{left_of_lem, back_from, past_some}
-use Rattle.engine_table.proofs.Facts.{trip-fits, early-fits, row_fits, number_fits, number-bytes, counted, inner-row-fits, inner-fits}
-use Rattle.engine_table.proofs.Steps.{delay-fits, base-fits, detour-fits, detour-edges, detour-written}
+use Rattle.engine_table.proofs.Facts.{trip_fits, early_fits, row_fits, number_fits, number_bytes, counted, inner_row_fits, inner_fits}
+use Rattle.engine_table.proofs.Steps.{delay_fits, base_fits, detour_fits, detour_edges, detour_written}
 use Rattle.engine_table.proofs.filling.detour_row.Statement.{statement}
 use Rattle.engine_table.proofs.filling.detour_row.Tie as tie
 
@@ -25,12 +25,12 @@ add-trip-of c =
 trip-of-requires : tie.Need-trip-of-requires
 trip-of-requires c κs =
     let z = at-start-from-slice-known c in
-    trip-fits _ _ _ _ _ _ z.pre.0.judged _ _ z.pre.1.0.up_to_lem z.pre.0.inside
+    trip_fits _ _ _ _ _ _ z.pre.0.judged _ _ z.pre.1.0.up_to_lem z.pre.0.inside
 
 mul-base : tie.Need-overflow-mul-base
 mul-base c =
     let z = at-start-from-slice-known c.before in
-    delay-fits _ _ _ _ _ _ _ _ _ _ z.pre.0 _ _ z.pre.1.0 _ c.trip-of.ensures
+    delay_fits _ _ _ _ _ _ _ _ _ _ z.pre.0 _ _ z.pre.1.0 _ c.trip-of.ensures
 
 add-early-of : tie.Need-overflow-add-early-of
 add-early-of c =
@@ -40,17 +40,17 @@ add-early-of c =
 early-of-requires : tie.Need-early-of-requires
 early-of-requires c κs =
     let z = at-start-from-slice-known c.before in
-    early-fits _ _ _ _ _ _ z.pre.0.judged _ _ z.pre.1.0.up_to_lem z.pre.0.inside
+    early_fits _ _ _ _ _ _ z.pre.0.judged _ _ z.pre.1.0.up_to_lem z.pre.0.inside
 
 add-base : tie.Need-overflow-add-base
 add-base c =
     let z = at-start c in
-    base-fits _ _ _ _ _ _ _ _ _ _ z.pre.0 _ _ z.pre.1.0 _ c.before.trip-of.ensures _ c.early-of.ensures
+    base_fits _ _ _ _ _ _ _ _ _ _ z.pre.0 _ _ z.pre.1.0 _ c.before.trip-of.ensures _ c.early-of.ensures
 
 row-requires : tie.Need-row-requires
 row-requires c κs =
     let z = at-start c in
-    inner-row-fits _ _ _ _ _ _ z.pre.0.judged _ _ z.pre.1.0.up_to_lem z.pre.0.inside
+    inner_row_fits _ _ _ _ _ _ z.pre.0.judged _ _ z.pre.1.0.up_to_lem z.pre.0.inside
 
 add-inner : tie.Need-overflow-add-inner
 add-inner c =
@@ -60,7 +60,7 @@ add-inner c =
 mul-inner : tie.Need-overflow-mul-inner
 mul-inner c =
     let z = at-start c.before in
-    number-bytes _ _ _ _ _ _ z.pre.0.judged _ z.pre.0.inside
+    number_bytes _ _ _ _ _ _ z.pre.0.judged _ z.pre.0.inside
 
 shared-slice-read-inner : tie.Need-shared-slice-read-inner
 shared-slice-read-inner c =
@@ -70,7 +70,7 @@ shared-slice-read-inner c =
 add-inner-2 : tie.Need-overflow-add-inner-2
 add-inner-2 c =
     let z = at-start c.before.before in
-    inner-fits _ _ _ _ _ _ z.pre.0.judged _ _ _ z.pre.1.0.up_to_lem z.pre.0.inside c.before.row.ensures
+    inner_fits _ _ _ _ _ _ z.pre.0.judged _ _ _ z.pre.1.0.up_to_lem z.pre.0.inside c.before.row.ensures
 
 add_row : tie.Need-overflow-add-row
 add_row c =
@@ -97,9 +97,9 @@ lower-row-requires c κs =
     let r = at_row c in
     let e = r.before in
     let z = at-start e in (
-      detour-fits _ _ _ _ _ _ _ _ _ _ z.pre.0 _ _ z.pre.1.0 _ e.before.trip-of.ensures _ e.early-of.ensures _ _ _ c.before.row2.ensures r.row.ensures
+      detour_fits _ _ _ _ _ _ _ _ _ _ z.pre.0 _ _ z.pre.1.0 _ e.before.trip-of.ensures _ e.early-of.ensures _ _ _ c.before.row2.ensures r.row.ensures
           c.row3.ensures,
-      detour-edges _ _ _ _ _ _ _ _ _ _ z.pre.0 _ _ z.pre.1.0 _ e.before.trip-of.ensures _ e.early-of.ensures _ _ _ c.before.row2.ensures
+      detour_edges _ _ _ _ _ _ _ _ _ _ z.pre.0 _ _ z.pre.1.0 _ e.before.trip-of.ensures _ e.early-of.ensures _ _ _ c.before.row2.ensures
           r.row.ensures c.row3.ensures z.pre.1.1,
     )
 
@@ -112,7 +112,7 @@ returns c =
     let row = at_row r in
     let e = row.before in
     let z = at-start e in
-    detour-written _ _ _ _ _ _ _ _ _ _ z.pre.0 _ _ z.pre.1.0 _ e.before.trip-of.ensures _ e.early-of.ensures _ _ _ r.before.row2.ensures
+    detour_written _ _ _ _ _ _ _ _ _ _ z.pre.0 _ _ z.pre.1.0 _ e.before.trip-of.ensures _ e.early-of.ensures _ _ _ r.before.row2.ensures
     row.row.ensures r.row3.ensures _ c.before.before.lower-row.ensures
 
 pub detour-row-spec : {M : Type 1} → statement M

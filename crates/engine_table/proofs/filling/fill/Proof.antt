@@ -2,8 +2,8 @@ use mathlib.Core.Path.{◌∙◌, refl}
 use Prim.Native.Nat.{◌-◌}
 use lib.ListN.{length}
 use Rattle.engine_table.proofs.Sizes.{stop_before, nearer, reads_fit, reads_next_fit, reads_rest_fit}
-use Rattle.engine_table.proofs.Facts.{few-reads, number_fits, number-bytes, number-next-fits, counted}
-use Rattle.engine_table.proofs.ColumnLoop.{TableLoop, first_row_fits, table-starts, left-within, column-task, table-turn, table_filled, table-beyond}
+use Rattle.engine_table.proofs.Facts.{few_reads_lem, number_fits, number_bytes, number_next_fits, counted}
+use Rattle.engine_table.proofs.ColumnLoop.{TableLoop, first_row_fits, table_starts, left_within, column_task_lem, table_turn, table_filled, table_beyond}
 use Rattle.engine_table.proofs.filling.fill.Statement.{statement}
 use Rattle.engine_table.proofs.filling.fill.Tie as tie
 
@@ -29,7 +29,7 @@ in-loop c = c.before.before.before.before.before
 add-clear : tie.Need-overflow-add-clear invariant-loop decreases-loop
 add-clear c =
     let z = at-start-from-clear-arg c in
-    reads_next_fit _ (few-reads _ _ _ _ _ _ z.pre.0)
+    reads_next_fit _ (few_reads_lem _ _ _ _ _ _ z.pre.0)
 
 clear-requires : tie.Need-clear-requires invariant-loop decreases-loop
 clear-requires c κs =
@@ -44,16 +44,16 @@ shared-slice-read-left c =
 loop-holds : tie.Need-loop-init invariant-loop decreases-loop
 loop-holds c =
     let z = at-start c in
-    table-starts _ _ _ _ _ _ _ _ _ z.pre.0 z.pre.1.0 z.pre.1.1 c.before.before.before.clear.ensures refl
+    table_starts _ _ _ _ _ _ _ _ _ z.pre.0 z.pre.1.0 z.pre.1.1 c.before.before.before.clear.ensures refl
 
 add-loop : tie.Need-overflow-add-loop invariant-loop decreases-loop
-add-loop c = number-next-fits _ _ _ _ _ _ c.loop.invariant.judged _ c.loop.invariant.inside
+add-loop c = number_next_fits _ _ _ _ _ _ c.loop.invariant.judged _ c.loop.invariant.inside
 
 add-n : tie.Need-overflow-add-n invariant-loop decreases-loop
 add-n c = number_fits _ _ _ _ _ _ c.before.loop.invariant.judged _ c.loop-test.true
 
 mul-n : tie.Need-overflow-mul-n invariant-loop decreases-loop
-mul-n c = number-bytes _ _ _ _ _ _ c.before.loop.invariant.judged _ c.loop-test.true
+mul-n c = number_bytes _ _ _ _ _ _ c.before.loop.invariant.judged _ c.loop-test.true
 
 shared-slice-read-n : tie.Need-shared-slice-read-n invariant-loop decreases-loop
 shared-slice-read-n c = counted _ _ _ _ _ _ c.before.before.loop.invariant.judged _ c.before.loop-test.true
@@ -61,22 +61,22 @@ shared-slice-read-n c = counted _ _ _ _ _ _ c.before.before.loop.invariant.judge
 add-n-2 : tie.Need-overflow-add-n-2 invariant-loop decreases-loop
 add-n-2 c =
     let l = c.before.before in
-    reads_fit _ _ (left-within _ _ _ _ _ _ _ _ _ _ l.loop.invariant c.before.loop-test.true) (few-reads _ _ _ _ _ _ l.loop.invariant.judged)
+    reads_fit _ _ (left_within _ _ _ _ _ _ _ _ _ _ l.loop.invariant c.before.loop-test.true) (few_reads_lem _ _ _ _ _ _ l.loop.invariant.judged)
 
 sub-n : tie.Need-overflow-sub-n invariant-loop decreases-loop
 sub-n c =
     let l = c.before.before in
-    left-within _ _ _ _ _ _ _ _ _ _ l.loop.invariant c.before.loop-test.true
+    left_within _ _ _ _ _ _ _ _ _ _ l.loop.invariant c.before.loop-test.true
 
 add-n-3 : tie.Need-overflow-add-n-3 invariant-loop decreases-loop
 add-n-3 c =
     let l = c.before.before in
-    reads_rest_fit _ _ (few-reads _ _ _ _ _ _ l.loop.invariant.judged)
+    reads_rest_fit _ _ (few_reads_lem _ _ _ _ _ _ l.loop.invariant.judged)
 
 fill-column-requires : tie.Need-fill-column-requires invariant-loop decreases-loop
 fill-column-requires c κs =
     let l = c.before.before.before in
-    (column-task _ _ _ _ _ _ _ _ _ _ l.loop.invariant _ c.before.before.loop-test.true refl, l.loop.invariant.reads-left)
+    (column_task_lem _ _ _ _ _ _ _ _ _ _ l.loop.invariant _ c.before.before.loop-test.true refl, l.loop.invariant.reads-left)
 
 add-b : tie.Need-overflow-add-b invariant-loop decreases-loop
 add-b c =
@@ -86,7 +86,7 @@ add-b c =
 mul_left : tie.Need-overflow-mul-left invariant-loop decreases-loop
 mul_left c =
     let il = in-loop c in
-    number-bytes _ _ _ _ _ _ il.before.loop.inv.judged _ il.loop-test.taken
+    number_bytes _ _ _ _ _ _ il.before.loop.inv.judged _ il.loop-test.taken
 
 shared-slice-read-left-2 : tie.Need-shared-slice-read-left-2 invariant-loop decreases-loop
 shared-slice-read-left-2 c =
@@ -97,7 +97,7 @@ add_left : tie.Need-overflow-add-left invariant-loop decreases-loop
 add_left c =
     let il = in-loop c.before in
     let l = il.before in
-    reads_fit _ _ (left-within _ _ _ _ _ _ _ _ _ _ l.loop.inv il.loop-test.taken) (few-reads _ _ _ _ _ _ l.loop.inv.judged)
+    reads_fit _ _ (left_within _ _ _ _ _ _ _ _ _ _ l.loop.inv il.loop-test.taken) (few_reads_lem _ _ _ _ _ _ l.loop.inv.judged)
 
 loop-less : tie.Need-loop-smaller invariant-loop decreases-loop
 loop-less c = nearer _ _ (stop_before _ _ (in-loop c.before).loop-test.taken)
@@ -106,7 +106,7 @@ loop-again : tie.Need-loop-preserved invariant-loop decreases-loop
 loop-again c =
     let il = in-loop c.before in
     let l = il.before in
-    table-turn _ _ _ _ _ _ _ _ _ _ l.loop.inv _ il.loop-test.taken c.before.before.before.fill-column.ensures
+    table_turn _ _ _ _ _ _ _ _ _ _ l.loop.inv _ il.loop-test.taken c.before.before.before.fill-column.ensures
 
 same_length : tie.Need-same-length invariant-loop decreases-loop
 same_length c =
@@ -118,7 +118,7 @@ returns c =
     let s = c.before.before in
     let z = at-start s in (
       table_filled _ _ _ _ _ _ _ _ _ _ c.before.loop.invariant c.loop-test.false,
-      table-beyond _ _ _ _ _ _ _ _ _ _ _ z.pre.1.0 s.before.before.before.clear.ensures c.before.loop.invariant,
+      table_beyond _ _ _ _ _ _ _ _ _ _ _ z.pre.1.0 s.before.before.before.clear.ensures c.before.loop.invariant,
     )
 
 pub fill_spec : {M : Type 1} → statement M

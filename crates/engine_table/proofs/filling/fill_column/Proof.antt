@@ -2,8 +2,8 @@ use mathlib.Core.Path.{◌∙◌}
 use native.Mathlib.Nat.{le_refl}
 use Prim.Native.Nat.{◌+◌, ◌-◌}
 use Rattle.engine_table.proofs.Sizes.{next_within, below_next, nearer, reads_next_fit, reads_twice_fit}
-use Rattle.engine_table.proofs.Facts.{number_fits, inner-row-fits, few-reads}
-use Rattle.engine_table.proofs.ColumnLoop.{ColumnLoop, column-starts, row-task, column-turn, column-done, clear-fits}
+use Rattle.engine_table.proofs.Facts.{number_fits, inner_row_fits, few_reads_lem}
+use Rattle.engine_table.proofs.ColumnLoop.{ColumnLoop, column_starts, row_task_lem, column_turn, column_done, clear_fits}
 use Rattle.engine_table.proofs.filling.fill_column.Statement.{statement}
 use Rattle.engine_table.proofs.filling.fill_column.Tie as tie
 
@@ -34,33 +34,33 @@ add_row c =
 row-requires : tie.Need-row-requires invariant-loop decreases-loop
 row-requires c κs =
     let z = at-start-from-clear-arg c in
-    inner-row-fits _ _ _ _ _ _ z.pre.0.judged _ _ (le_refl _) z.pre.0.inside
+    inner_row_fits _ _ _ _ _ _ z.pre.0.judged _ _ (le_refl _) z.pre.0.inside
 
 add-clear : tie.Need-overflow-add-clear invariant-loop decreases-loop
 add-clear c =
     let z = at-start c in
-    reads_next_fit _ (few-reads _ _ _ _ _ _ z.pre.0.judged)
+    reads_next_fit _ (few_reads_lem _ _ _ _ _ _ z.pre.0.judged)
 
 mul-clear : tie.Need-overflow-mul-clear invariant-loop decreases-loop
 mul-clear c =
     let z = at-start c in
-    reads_twice_fit _ (few-reads _ _ _ _ _ _ z.pre.0.judged)
+    reads_twice_fit _ (few_reads_lem _ _ _ _ _ _ z.pre.0.judged)
 
 clear-requires : tie.Need-clear-requires invariant-loop decreases-loop
 clear-requires c κs =
     let z = at-start c in
-    clear-fits _ _ _ _ _ _ _ _ _ _ z.pre.0 c.row.ensures
+    clear_fits _ _ _ _ _ _ _ _ _ _ z.pre.0 c.row.ensures
 
 loop-holds : tie.Need-loop-init invariant-loop decreases-loop
 loop-holds c =
     let r = c.before.before.before in
     let z = at-start r in
-    column-starts _ _ _ _ _ _ _ _ _ _ _ z.pre.0 r.row.ensures c.before.before.clear.ensures
+    column_starts _ _ _ _ _ _ _ _ _ _ _ z.pre.0 r.row.ensures c.before.before.clear.ensures
 
 fill-row-requires : tie.Need-fill-row-requires invariant-loop decreases-loop
 fill-row-requires c κs =
     let z = at-start (at_row c) in
-    (row-task _ _ _ _ _ _ _ _ _ _ _ c.before.before.loop.invariant c.before.loop-test.true, z.pre.1)
+    (row_task_lem _ _ _ _ _ _ _ _ _ _ _ c.before.before.loop.invariant c.before.loop-test.true, z.pre.1)
 
 add_a : tie.Need-overflow-add-a invariant-loop decreases-loop
 add_a c =
@@ -77,7 +77,7 @@ loop-again : tie.Need-loop-preserved invariant-loop decreases-loop
 loop-again c =
     let fr = c.before.before in
     let l = fr.before.before.before in
-    column-turn _ _ _ _ _ _ _ _ _ _ _ l.loop.invariant _ fr.before.before.loop-test.true fr.fill-row.ensures
+    column_turn _ _ _ _ _ _ _ _ _ _ _ l.loop.invariant _ fr.before.before.loop-test.true fr.fill-row.ensures
 
 same_length : tie.Need-same-length invariant-loop decreases-loop
 same_length c =
@@ -89,7 +89,7 @@ returns c =
     let s = c.before.before in
     let r = s.before.before.before in
     let z = at-start r in
-    column-done _ _ _ _ _ _ _ _ _ _ _ _ _ z.pre.0 r.row.ensures s.before.before.clear.ensures c.before.loop.invariant c.loop-test.false
+    column_done _ _ _ _ _ _ _ _ _ _ _ _ _ z.pre.0 r.row.ensures s.before.before.clear.ensures c.before.loop.invariant c.loop-test.false
 
 pub fill-column-spec : {M : Type 1} → statement M
 fill-column-spec =

@@ -2,8 +2,8 @@ use mathlib.Core.Path.{◌∙◌}
 use Prim.Native.Nat.{◌-◌, ◌<◌}
 use lib.ListN.{length}
 use Rattle.engine_table.proofs.Sizes.{up_to_next, left_of_lem, back_from, past_some, one_back}
-use Rattle.engine_table.proofs.Facts.{early-fits, row_fits, number_fits, number-bytes, counted, inner-row-fits, inner-fits}
-use Rattle.engine_table.proofs.RowLoop.{RowLoop, skip-fits, row-starts, detour-next, count_left, row-turn, row-filled}
+use Rattle.engine_table.proofs.Facts.{early_fits, row_fits, number_fits, number_bytes, counted, inner_row_fits, inner_fits}
+use Rattle.engine_table.proofs.RowLoop.{RowLoop, skip_fits, row_starts, detour_next, count_left, row_turn, row_filled}
 use Rattle.engine_table.proofs.filling.fill_row.Statement.{statement}
 use Rattle.engine_table.proofs.filling.fill_row.Tie as tie
 
@@ -39,7 +39,7 @@ back_in c = let r = (at-loop c).loop.invariant in back_from _ _ _ r.up_to r.task
 row-requires : tie.Need-row-requires invariant-loop decreases-loop
 row-requires c κs =
     let z = c.before.before.before.before.before in
-    inner-row-fits _ _ _ _ _ _ z.requires.0.judged _ _ (up_to_next _ _ z.requires.0.window) z.requires.0.inside
+    inner_row_fits _ _ _ _ _ _ z.requires.0.judged _ _ (up_to_next _ _ z.requires.0.window) z.requires.0.inside
 
 add-from : tie.Need-overflow-add-from invariant-loop decreases-loop
 add-from c =
@@ -49,7 +49,7 @@ add-from c =
 mul-from : tie.Need-overflow-mul-from invariant-loop decreases-loop
 mul-from c =
     let z = at-start c in
-    number-bytes _ _ _ _ _ _ z.pre.0.judged _ z.pre.0.inside
+    number_bytes _ _ _ _ _ _ z.pre.0.judged _ z.pre.0.inside
 
 shared-slice-read-from : tie.Need-shared-slice-read-from invariant-loop decreases-loop
 shared-slice-read-from c =
@@ -59,7 +59,7 @@ shared-slice-read-from c =
 add-from-2 : tie.Need-overflow-add-from-2 invariant-loop decreases-loop
 add-from-2 c =
     let z = at-start c.before in
-    inner-fits _ _ _ _ _ _ z.pre.0.judged _ _ _ (up_to_next _ _ z.pre.0.window) z.pre.0.inside c.before.row.ensures
+    inner_fits _ _ _ _ _ _ z.pre.0.judged _ _ _ (up_to_next _ _ z.pre.0.window) z.pre.0.inside c.before.row.ensures
 
 add_row : tie.Need-overflow-add-row invariant-loop decreases-loop
 add_row c =
@@ -79,13 +79,13 @@ add-early-of c =
 early-of-requires : tie.Need-early-of-requires invariant-loop decreases-loop
 early-of-requires c κs =
     let z = at-start c.before.before.before in
-    early-fits _ _ _ _ _ _ z.pre.0.judged _ _ (up_to_next _ _ z.pre.0.window) z.pre.0.inside
+    early_fits _ _ _ _ _ _ z.pre.0.judged _ _ (up_to_next _ _ z.pre.0.window) z.pre.0.inside
 
 skip-row-requires : tie.Need-skip-row-requires invariant-loop decreases-loop
 skip-row-requires c κs =
     let r = at_row c in
     let z = at-start r in
-    skip-fits _ _ _ _ _ _ _ _ _ _ z.pre.0 _ c.early-of.ensures _ _ c.before.row2.ensures r.row.ensures
+    skip_fits _ _ _ _ _ _ _ _ _ _ z.pre.0 _ c.early-of.ensures _ _ c.before.row2.ensures r.row.ensures
 
 add-c : tie.Need-overflow-add-c invariant-loop decreases-loop
 add-c c =
@@ -97,18 +97,18 @@ loop-holds c =
     let q = c.before.before.before in
     let r = at_row q in
     let z = at-start r in
-    row-starts _ _ _ _ _ _ _ _ _ _ z.pre.0 _ q.early-of.ensures _ _ q.before.row2.ensures r.row.ensures _ z.pre.1 _ c.before.before.skip-row.ensures
+    row_starts _ _ _ _ _ _ _ _ _ _ z.pre.0 _ q.early-of.ensures _ _ q.before.row2.ensures r.row.ensures _ z.pre.1 _ c.before.before.skip-row.ensures
 
 detour-row-requires : tie.Need-detour-row-requires invariant-loop decreases-loop
 detour-row-requires c κs =
     let r = c.before.before.loop.invariant in
-    (r.task, (detour-next _ _ _ _ _ _ _ _ _ _ _ _ _ r c.before.loop-test.true, r.so_far))
+    (r.task, (detour_next _ _ _ _ _ _ _ _ _ _ _ _ _ r c.before.loop-test.true, r.so_far))
 
 sub-c : tie.Need-overflow-sub-c invariant-loop decreases-loop
 sub-c c = past_some _ _ (turns c).loop-test.true
 
 mul-w : tie.Need-overflow-mul-w invariant-loop decreases-loop
-mul-w c = number-bytes _ _ _ _ _ _ (at-loop c).loop.invariant.task.judged _ (back_in c)
+mul-w c = number_bytes _ _ _ _ _ _ (at-loop c).loop.invariant.task.judged _ (back_in c)
 
 shared-slice-read-w : tie.Need-shared-slice-read-w invariant-loop decreases-loop
 shared-slice-read-w c = counted _ _ _ _ _ _ (at-loop c.before).loop.inv.task.judged _ (back_in c.before)
@@ -125,7 +125,7 @@ loop-again : tie.Need-loop-preserved invariant-loop decreases-loop
 loop-again c =
     let dr = c.before.before.before in
     let l = dr.before.before.before in
-    row-turn _ _ _ _ _ _ _ _ _ _ _ _ _ l.loop.invariant _ dr.before.before.loop-test.true dr.detour-row.ensures
+    row_turn _ _ _ _ _ _ _ _ _ _ _ _ _ l.loop.invariant _ dr.before.before.loop-test.true dr.detour-row.ensures
 
 same_length : tie.Need-same-length invariant-loop decreases-loop
 same_length c = c.before.loop.invariant.kept.same ∙ c.before.before.before.before.skip-row.auto.0
@@ -133,7 +133,7 @@ same_length c = c.before.loop.invariant.kept.same ∙ c.before.before.before.bef
 returns : tie.Need-returns invariant-loop decreases-loop
 returns c =
     let s = c.before.before in
-    row-filled _ _ _ _ _ _ _ _ _ _ _ _ _ _ _ _ s.before.before.before.before.row2.ensures s.before.before.skip-row.ensures c.before.loop.invariant c.loop-test.false
+    row_filled _ _ _ _ _ _ _ _ _ _ _ _ _ _ _ _ s.before.before.before.before.row2.ensures s.before.before.skip-row.ensures c.before.loop.invariant c.loop-test.false
 
 pub fill-row-spec : {M : Type 1} → statement M
 fill-row-spec =

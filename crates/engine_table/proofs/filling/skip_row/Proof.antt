@@ -3,7 +3,7 @@ use Prim.Native.Nat.{◌+◌, ◌-◌, ◌≤◌}
 use native.Mathlib.Omega.{arith}
 use lib.ListN.{get_or}
 use Rattle.engine_table.specs.Private.{Written}
-use Rattle.engine_table.proofs.Words.{written_none, word-from, row-skipped, written_all}
+use Rattle.engine_table.proofs.Words.{written_none, word_from, row_skipped, written_all}
 use Rattle.engine_table.proofs.filling.skip_row.Statement.{statement}
 use Rattle.engine_table.proofs.filling.skip_row.Tie as tie
 
@@ -29,7 +29,7 @@ slice-read-room : tie.Need-slice-read-room invariant-loop decreases-loop
 slice-read-room c = search rules
 
 add-room-2 : tie.Need-overflow-add-room-2 invariant-loop decreases-loop
-add-room-2 c = let l = c.before.before in omega (arith, word-from _ _ _ _ _ l.before.requires _ _ l.loop.invariant.1 (search rules), l.before.requires.fits l.loop.s (search rules))
+add-room-2 c = let l = c.before.before in omega (arith, word_from _ _ _ _ _ l.before.requires _ _ l.loop.invariant.1 (search rules), l.before.requires.fits l.loop.s (search rules))
 
 add-room-3 : tie.Need-overflow-add-room-3 invariant-loop decreases-loop
 add-room-3 c = search rules
@@ -47,7 +47,7 @@ loop-less : tie.Need-loop-smaller invariant-loop decreases-loop
 loop-less c = search rules
 
 loop-again : tie.Need-loop-preserved invariant-loop decreases-loop
-loop-again c = let l = c.before.before in (search rules, row-skipped _ _ _ _ _ l.before.requires _ _ l.loop.invariant.1 (search rules))
+loop-again c = let l = c.before.before in (search rules, row_skipped _ _ _ _ _ l.before.requires _ _ l.loop.invariant.1 (search rules))
 
 same_length : tie.Need-same-length invariant-loop decreases-loop
 same_length c = c.before.loop.invariant.1.kept.same

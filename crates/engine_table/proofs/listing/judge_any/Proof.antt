@@ -4,7 +4,7 @@ use mathlib.Core.Path.{ap, ◌∙◌}
 use Rattle.runs.specs.Alone.{alone_of}
 use Rattle.runs.specs.Judging.{judge_of}
 use borrow.Author.Rules.{rules}
-use Rattle.engine_table.proofs.Refusals.{table-refused, table-judged}
+use Rattle.engine_table.proofs.Refusals.{table_refused, table_judged}
 use Rattle.engine_table.proofs.listing.judge_any.Statement.{statement}
 use Rattle.engine_table.proofs.listing.judge_any.Tie as tie
 
@@ -17,7 +17,7 @@ refused-requires c κs = search rules
 returns : tie.Need-returns
 returns c =
     let files = c.before.before in
-    table-refused _ _ _ files.refuse-if.ensures c.before.refused.ensures c.if1.true
+    table_refused _ _ _ files.refuse-if.ensures c.before.refused.ensures c.if1.true
 
 lift-head-requires : tie.Need-lift-head-requires
 lift-head-requires c κs = search rules
@@ -30,7 +30,7 @@ returns-2 c =
     let e = c.before.before in
     let files = e.before.before in
     let a = files.before.before.before.before.before.args in
-    table-judged _ _ _ files.refuse-if.ensures e.before.refused.ensures e.if1.false _
+    table_judged _ _ _ files.refuse-if.ensures e.before.refused.ensures e.if1.false _
     (c.judge-alone.ensures
     ∙ ap (λ h. judge_of (alone_of a.starts.now a.lengths.now a.numbers.now a.counts.now h a.turn)) c.before.lift-head.ensures)
 

@@ -7,8 +7,8 @@ use native.Mathlib.Omega.{arith}
 use lib.Seq.{length-take-le}
 use Rattle.least.specs.Recurrence.{least_list}
 use Rattle.engine_table.proofs.Cells.{beyond_none}
-use Rattle.engine_table.proofs.MetRows.{table-even, table_ends, judged-met, stops-met}
-use Rattle.engine_table.proofs.Outcome.{list_none_written, list_same_written, least_of_none, least-of-some}
+use Rattle.engine_table.proofs.MetRows.{table_even, table_ends, judged_met, stops_met}
+use Rattle.engine_table.proofs.Outcome.{list_none_written, list_same_written, least_of_none, least_of_some}
 use Rattle.engine_table.proofs.listing.least_list.Statement.{statement}
 use Rattle.engine_table.proofs.listing.least_list.Tie as tie
 
@@ -40,7 +40,7 @@ pulled-starts-requires c κs = (at-start c.before).requires.0.few
 pulled-lengths-requires : tie.Need-pulled-lengths-requires
 pulled-lengths-requires c κs =
     let z = entry c in
-    (z.pre.0.few, (table-even _ _ _ _ _ _ _ z.pre.0, table_ends _ _ _ _ _ _ _ z.pre.0))
+    (z.pre.0.few, (table_even _ _ _ _ _ _ _ z.pre.0, table_ends _ _ _ _ _ _ _ z.pre.0))
 
 array-share-prefix-lefts : tie.Need-array-share-prefix-lefts
 array-share-prefix-lefts c = c.before.pulled-starts.ensures.long
@@ -58,7 +58,7 @@ fill-requires : tie.Need-fill-requires
 fill-requires c κs =
     let p = pulls c in
     let z = entry p in (
-      judged-met _ _ _ _ _ _ _ z.pre.0 _ _ p.pulled-starts.ensures c.before.before.before.pulled-lengths.ensures,
+      judged_met _ _ _ _ _ _ _ z.pre.0 _ _ p.pulled-starts.ensures c.before.before.before.pulled-lengths.ensures,
       (some-wanted _ p.before.if1.left, z.pre.1.1.1),
     )
 
@@ -98,8 +98,8 @@ returns-2 c =
     let z = entry p in
     let lefts = p.pulled-starts.ensures in
     let spans = f.before.before.before.before.pulled-lengths.ensures in
-    let list = least-of-some _ _ _ _ _ _ (judged-met _ _ _ _ _ _ _ z.pre.0 _ _ lefts spans) p.before.if1.left in
-    let met = ap (least_list z.args.turn) (stops-met _ _ _ _ _ _ _ z.pre.0 _ _ lefts spans) in
+    let list = least_of_some _ _ _ _ _ _ (judged_met _ _ _ _ _ _ _ z.pre.0 _ _ lefts spans) p.before.if1.left in
+    let met = ap (least_list z.args.turn) (stops_met _ _ _ _ _ _ _ z.pre.0 _ _ lefts spans) in
     (list_same_written _ _ _ _ _ _ _ (list ∙ met) r.read_off.ensures, f.fill.ensures.1)
 
 pub least-list-spec : {M : Type 1} → statement M

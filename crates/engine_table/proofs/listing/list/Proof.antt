@@ -14,8 +14,8 @@ use Rattle.runs.proofs.Alone.{alone_stops}
 use Rattle.engine_table.specs.Listing.{ListRows, list_rows}
 use Rattle.engine_table.specs.Private.{LongRows, table_size}
 use Rattle.runs.proofs.Accepted.{counted_exact}
-use Rattle.engine_table.proofs.Outcome.{reads-small, list_same_written, still_fits, listed-so}
-use Rattle.engine_table.proofs.Refusals.{TablePasses, run_refused, run-accepted, rows-refused, rows_accepted, rows_long, room-big, run-listed}
+use Rattle.engine_table.proofs.Outcome.{reads_small, list_same_written, still_fits, listed_so}
+use Rattle.engine_table.proofs.Refusals.{TablePasses, run_refused, run_accepted, rows_refused_lem, rows_accepted, rows_long, room_big, run_listed}
 use borrow.Author.Rules.{rules}
 use Rattle.engine_table.proofs.listing.list.Statement.{statement}
 use Rattle.engine_table.proofs.listing.list.Tie as tie
@@ -40,7 +40,7 @@ abbrev rows : tie.Else1 → ListRows
 rows e = let a = (start e).args in list_rows a.froms.now a.tos.now a.room.now
 
 passed : (e : tie.Else1) → TablePasses (run e)
-passed e = run-accepted (run e) (rows e) _ _ e.before.before.judge-any.ensures e.before.refused.ensures e.if1.false
+passed e = run_accepted (run e) (rows e) _ _ e.before.before.judge-any.ensures e.before.refused.ensures e.if1.false
 
 good : (e : tie.Else1) → GoodRun (lifted (run e))
 good e = (accepted_any (run e) (passed e).accepts).run
@@ -56,10 +56,10 @@ stops-are e =
 
 -- The reads, and that a table for them has a size.
 reads-are : (n : tie.After-count-reads) → n.count-reads.result ≡ total (run n.before).counts
-reads-are n = n.count-reads.ensures ∙ counted_exact (run n.before).counts (reads-small (run n.before) (passed n.before).accepts)
+reads-are n = n.count-reads.ensures ∙ counted_exact (run n.before).counts (reads_small (run n.before) (passed n.before).accepts)
 
 reads-few : (n : tie.After-count-reads) → n.count-reads.result ≤ most_reads
-reads-few n = le_trans (le_of_eq (reads-are n)) (reads-small (run n.before) (passed n.before).accepts)
+reads-few n = le_trans (le_of_eq (reads-are n)) (reads_small (run n.before) (passed n.before).accepts)
 
 judge-rows-requires : tie.Need-judge-rows-requires
 judge-rows-requires c κs = ((good c.before).wants.few, reads-few c)
@@ -71,7 +71,7 @@ returns-2 : tie.Need-returns-2
 returns-2 c =
     let n = c.before.before.before in
     let e = n.before in
-    rows-refused (run e) (rows e) _ _ e.before.before.judge-any.ensures e.before.refused.ensures
+    rows_refused_lem (run e) (rows e) _ _ e.before.before.judge-any.ensures e.before.refused.ensures
     _ (reads-are n) _ c.before.before.judge-rows.ensures _ c.before.refused2.ensures e.if1.false c.if2.true
 
 -- Past the second check the rows are long enough and the room is big enough.
@@ -89,7 +89,7 @@ big : (d : tie.Else2) → table_size (length (run (first d)).numbers) d.before.b
 big d =
     let n = d.before.before.before in
     let e = n.before in
-    room-big (run e) (rows e) _ _ e.before.before.judge-any.ensures e.before.refused.ensures
+    room_big (run e) (rows e) _ _ e.before.before.judge-any.ensures e.before.refused.ensures
     _ (reads-are n) _ d.before.before.judge-rows.ensures _ d.before.refused2.ensures e.if1.false d.if2.false
 
 least-list-requires : tie.Need-least-list-requires
@@ -144,9 +144,9 @@ returns-3 c =
     let zeroed = rw w.table-words.ensures at c.before.before.clear.ensures in
     let u-is = rows_accepted (run e) (rows e) _ _ ja.judge-any.ensures e.before.refused.ensures _ (reads-are n) _ jr.judge-rows.ensures _
     d.before.refused2.ensures e.if1.left d.if2.left in
-    run-listed (run e) (rows e) _ _ ja.judge-any.ensures e.before.refused.ensures
+    run_listed (run e) (rows e) _ _ ja.judge-any.ensures e.before.refused.ensures
     _ (reads-are n) _ jr.judge-rows.ensures _ d.before.refused2.ensures e.if1.left d.if2.left _ _
-    (listed-so (run e) _ a.froms.now a.tos.now a.room.now (passed e).accepts (reads-are n) _ _ _ _ _ _ u-is (big d) written listed.1 zeroed)
+    (listed_so (run e) _ a.froms.now a.tos.now a.room.now (passed e).accepts (reads-are n) _ _ _ _ _ _ u-is (big d) written listed.1 zeroed)
 
 pub list-spec : {M : Type 1} → statement M
 list-spec =

@@ -1,8 +1,8 @@
 -- `engine_table::reading::choice_of` meets its contract: the skip if its sum is the window's word, else the start that is looked for.
 -- Assumes nothing.
 use Rattle.engine_table.proofs.Sizes.{up_to_next, left_of_lem}
-use Rattle.engine_table.proofs.Facts.{early-fits, row_fits, number_fits, number-bytes, counted, inner-row-fits, inner-fits, inner-skip-fits, inner-skip-bytes, word_fits, word_bytes}
-use Rattle.engine_table.proofs.Asking.{least_at, least-inside, skip-sum-fits, skip-inside, skip-found, not-skipped}
+use Rattle.engine_table.proofs.Facts.{early_fits, row_fits, number_fits, number_bytes, counted, inner_row_fits, inner_fits, inner_skip_fits, inner_skip_bytes, word_fits, word_bytes}
+use Rattle.engine_table.proofs.Asking.{least_at, least_inside, skip_sum_fits, skip_inside, skip_found, not_skipped}
 use Rattle.engine_table.proofs.reading.choice_of.Statement.{statement}
 use Rattle.engine_table.proofs.reading.choice_of.Tie as tie
 
@@ -36,12 +36,12 @@ mul-least c =
 shared-slice-read-least : tie.Need-shared-slice-read-least
 shared-slice-read-least c =
     let z = at-start c.before in
-    least-inside _ _ _ _ _ _ _ _ _ _ z.pre _ c.before.row.ensures
+    least_inside _ _ _ _ _ _ _ _ _ _ z.pre _ c.before.row.ensures
 
 row-requires-2 : tie.Need-row-requires-2
 row-requires-2 c κs =
     let z = at-start c.before in
-    inner-row-fits _ _ _ _ _ _ z.pre.filled.judged _ _ (up_to_next _ _ z.pre.window) z.pre.inside
+    inner_row_fits _ _ _ _ _ _ z.pre.filled.judged _ _ (up_to_next _ _ z.pre.window) z.pre.inside
 
 add-from : tie.Need-overflow-add-from
 add-from c =
@@ -51,7 +51,7 @@ add-from c =
 mul-from : tie.Need-overflow-mul-from
 mul-from c =
     let z = at-start c.before.before in
-    number-bytes _ _ _ _ _ _ z.pre.filled.judged _ z.pre.inside
+    number_bytes _ _ _ _ _ _ z.pre.filled.judged _ z.pre.inside
 
 shared-slice-read-from : tie.Need-shared-slice-read-from
 shared-slice-read-from c =
@@ -61,12 +61,12 @@ shared-slice-read-from c =
 add-from-2 : tie.Need-overflow-add-from-2
 add-from-2 c =
     let z = at-start c.before.before.before in
-    inner-fits _ _ _ _ _ _ z.pre.filled.judged _ _ _ (up_to_next _ _ z.pre.window) z.pre.inside c.before.row2.ensures
+    inner_fits _ _ _ _ _ _ z.pre.filled.judged _ _ _ (up_to_next _ _ z.pre.window) z.pre.inside c.before.row2.ensures
 
 add-from-3 : tie.Need-overflow-add-from-3
 add-from-3 c =
     let z = at-start c.before.before.before in
-    inner-skip-fits _ _ _ _ _ _ z.pre.filled.judged _ _ _ (up_to_next _ _ z.pre.window) z.pre.inside c.before.row2.ensures _ _ z.pre.span
+    inner_skip_fits _ _ _ _ _ _ z.pre.filled.judged _ _ _ (up_to_next _ _ z.pre.window) z.pre.inside c.before.row2.ensures _ _ z.pre.span
 
 add-early-of : tie.Need-overflow-add-early-of
 add-early-of c =
@@ -76,29 +76,29 @@ add-early-of c =
 early-of-requires : tie.Need-early-of-requires
 early-of-requires c κs =
     let z = at-start c.before.before.before in
-    early-fits _ _ _ _ _ _ z.pre.filled.judged _ _ (up_to_next _ _ z.pre.window) z.pre.inside
+    early_fits _ _ _ _ _ _ z.pre.filled.judged _ _ (up_to_next _ _ z.pre.window) z.pre.inside
 
 mul-if1 : tie.Need-overflow-mul-if1
 mul-if1 c =
     let z = at-start (at_row c) in
-    inner-skip-bytes _ _ _ _ _ _ z.pre.filled.judged _ _ _ (up_to_next _ _ z.pre.window) z.pre.inside c.before.before.row2.ensures _ _ z.pre.span
+    inner_skip_bytes _ _ _ _ _ _ z.pre.filled.judged _ _ _ (up_to_next _ _ z.pre.window) z.pre.inside c.before.before.row2.ensures _ _ z.pre.span
 
 shared-slice-read-if1 : tie.Need-shared-slice-read-if1
 shared-slice-read-if1 c =
     let z = at-start (at_row c.before) in
-    skip-inside _ _ _ _ _ _ _ _ _ _ z.pre _ c.before.early-of.ensures _ c.before.before.before.row2.ensures
+    skip_inside _ _ _ _ _ _ _ _ _ _ z.pre _ c.before.early-of.ensures _ c.before.before.before.row2.ensures
 
 add-if1 : tie.Need-overflow-add-if1
 add-if1 c =
     let z = at-start (at_row c.before) in
-    record { fits = skip-sum-fits _ _ _ _ _ _ _ _ _ _ z.pre _ c.before.early-of.ensures _ c.before.before.before.row2.ensures }
+    record { fits = skip_sum_fits _ _ _ _ _ _ _ _ _ _ z.pre _ c.before.early-of.ensures _ c.before.before.before.row2.ensures }
 
 returns : tie.Need-returns
 returns c =
     let eo = c.before.before in
     let r = at_row eo in
     let z = at-start r in
-    skip-found _ _ _ _ _ _ _ _ _ _ z.pre _ eo.early-of.ensures _ eo.before.before.row2.ensures _ r.row.ensures c.if1.true
+    skip_found _ _ _ _ _ _ _ _ _ _ z.pre _ eo.early-of.ensures _ eo.before.before.row2.ensures _ r.row.ensures c.if1.true
 
 detour-start-requires : tie.Need-detour-start-requires
 detour-start-requires c κs =
@@ -108,7 +108,7 @@ detour-start-requires c κs =
       z.pre,
       (
         least_at _ _ _ _ _ _ _ _ _ _ z.pre _ r.row.ensures,
-        not-skipped _ _ _ _ _ _ _ _ _ _ z.pre _ eo.early-of.ensures _ eo.before.before.row2.ensures _ r.row.ensures c.if1.false,
+        not_skipped _ _ _ _ _ _ _ _ _ _ z.pre _ eo.early-of.ensures _ eo.before.before.row2.ensures _ r.row.ensures c.if1.false,
       ),
     )
 

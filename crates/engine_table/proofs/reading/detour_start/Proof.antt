@@ -3,8 +3,8 @@
 use borrow.Author.Rules.{rules}
 use native.Mathlib.Omega.{arith}
 use mathlib.Core.Path.{sym, ◌∙◌}
-use Rattle.engine_table.proofs.Facts.{even-counts, few-reads}
-use Rattle.engine_table.proofs.Asking.{StartLoop, start_loop, detour-asked, count-before, start-found, start-on, start-last}
+use Rattle.engine_table.proofs.Facts.{even_counts, few_reads_lem}
+use Rattle.engine_table.proofs.Asking.{StartLoop, start_loop, detour_asked, count_before, start_found, start_on, start_last}
 use Rattle.engine_table.proofs.reading.detour_start.Statement.{statement}
 use Rattle.engine_table.proofs.reading.detour_start.Tie as tie
 
@@ -38,7 +38,7 @@ reads-before-requires : tie.Need-reads-before-requires invariant-loop decreases-
 reads-before-requires c κs =
     let z = at-start-from-shared-slice-known5 c in
     let j = z.pre.0.filled.judged in
-    (omega (arith, even-counts _ _ _ _ _ _ j, z.pre.0.inside), omega (arith, few-reads _ _ _ _ _ _ j, j.run.whole))
+    (omega (arith, even_counts _ _ _ _ _ _ j, z.pre.0.inside), omega (arith, few_reads_lem _ _ _ _ _ _ j, j.run.whole))
 
 loop-holds : tie.Need-loop-init invariant-loop decreases-loop
 loop-holds c =
@@ -53,13 +53,13 @@ add-loop c =
 detour-cost-requires : tie.Need-detour-cost-requires invariant-loop decreases-loop
 detour-cost-requires c κs =
     let z = at-start c.before in
-    (z.pre.0, detour-asked _ _ _ _ _ _ _ _ _ _ z.pre.0 _ _ c.before.loop.invariant)
+    (z.pre.0, detour_asked _ _ _ _ _ _ _ _ _ _ z.pre.0 _ _ c.before.loop.invariant)
 
 returns : tie.Need-returns invariant-loop decreases-loop
 returns c =
     let al = c.before.before.before in
     let z = at-start al in
-    start-found _ _ _ _ _ _ _ _ _ _ z.pre.0 _ _ al.loop.invariant (sym c.before.detour-cost.ensures ∙ c.if1.true ∙ z.pre.1.0)
+    start_found _ _ _ _ _ _ _ _ _ _ z.pre.0 _ _ al.loop.invariant (sym c.before.detour-cost.ensures ∙ c.if1.true ∙ z.pre.1.0)
 
 sub-c : tie.Need-overflow-sub-c invariant-loop decreases-loop
 sub-c c = search rules
@@ -68,19 +68,19 @@ mul-w : tie.Need-overflow-mul-w invariant-loop decreases-loop
 mul-w c =
     let al = c.before.before.before in
     let z = at-start al in
-    omega (arith, even-counts _ _ _ _ _ _ z.pre.0.filled.judged, al.loop.invariant.up_to, z.pre.0.inside, z.good)
+    omega (arith, even_counts _ _ _ _ _ _ z.pre.0.filled.judged, al.loop.invariant.up_to, z.pre.0.inside, z.good)
 
 shared-slice-read-w : tie.Need-shared-slice-read-w invariant-loop decreases-loop
 shared-slice-read-w c =
     let al = at-loop c in
     let z = at-start al in
-    omega (arith, even-counts _ _ _ _ _ _ z.pre.0.filled.judged, al.loop.inv, z.pre.0.inside)
+    omega (arith, even_counts _ _ _ _ _ _ z.pre.0.filled.judged, al.loop.inv, z.pre.0.inside)
 
 sub-w : tie.Need-overflow-sub-w invariant-loop decreases-loop
 sub-w c =
     let al = at-loop c in
     let z = at-start al in
-    count-before _ _ _ _ _ _ _ _ _ _ z.pre.0 _ _ al.loop.inv
+    count_before _ _ _ _ _ _ _ _ _ _ z.pre.0 _ _ al.loop.inv
 
 loop-less : tie.Need-loop-smaller invariant-loop decreases-loop
 loop-less c = search rules
@@ -89,13 +89,13 @@ loop-again : tie.Need-loop-preserved invariant-loop decreases-loop
 loop-again c =
     let al = at-loop c in
     let z = at-start al in
-    start-on _ _ _ _ _ _ _ _ _ _ z.pre.0 _ _ al.loop.inv c.before.before.before.loop-test.true
+    start_on _ _ _ _ _ _ _ _ _ _ z.pre.0 _ _ al.loop.inv c.before.before.before.loop-test.true
     (λ e. c.before.if1.false (c.before.before.detour-cost.ensures ∙ e ∙ sym z.pre.1.0))
 
 returns-2 : tie.Need-returns-2 invariant-loop decreases-loop
 returns-2 c =
     let z = at-start c.before in
-    start-last _ _ _ _ _ _ _ _ _ _ z.pre.0 _ _ c.before.loop.invariant c.loop-test.false
+    start_last _ _ _ _ _ _ _ _ _ _ z.pre.0 _ _ c.before.loop.invariant c.loop-test.false
 
 pub detour-start-spec : {M : Type 1} → statement M
 detour-start-spec =

@@ -5,10 +5,10 @@ use lib.ListN.{length, get_or}
 use mir.Syntax.{w8, w16, w64}
 use mir.Val.{Fits}
 use Rattle.runs.specs.Run.{most_reads}
-use Rattle.engine_table.proofs.Facts.{even-counts, few_stops, few-reads}
+use Rattle.engine_table.proofs.Facts.{even_counts, few_stops, few_reads_lem}
 use Rattle.engine_table.proofs.Sizes.{stop_fits, stop_bytes, in_both, past_some}
 use Rattle.engine_table.proofs.Stack.{TopFrame}
-use Rattle.engine_table.proofs.ReadLoop.{ReadLoop, read-starts, stack-room, window-asked, skips-small, read-skip, read-push, frame, frame-depth, from-room, to_room, read-pop, read-ends}
+use Rattle.engine_table.proofs.ReadLoop.{ReadLoop, read_starts, stack_room, window_asked, skips_small, read_skip, read_push, frame, frame_depth, from_room, to_room, read_pop, read_ends}
 use Prim.Native.Nat.{ℕ, ◌+◌, ◌-◌, ◌*◌, ◌≤◌, ◌<◌}
 use native.Mathlib.Omega.{arith}
 use borrow.Author.Rules.{rules}
@@ -66,26 +66,26 @@ few : (l : tie.At-loop invariant-loop decreases-loop) → length (at-start l).ar
 few l = few_stops _ _ _ _ _ _ (at-start l).requires.0.judged
 
 few-wanted : (l : tie.At-loop invariant-loop decreases-loop) → (at-start l).args.reads ≤ most_reads
-few-wanted l = few-reads _ _ _ _ _ _ (at-start l).requires.0.judged
+few-wanted l = few_reads_lem _ _ _ _ _ _ (at-start l).requires.0.judged
 
 even : (l : tie.At-loop invariant-loop decreases-loop) → length (at-start l).args.numbers.now ≡ length (at-start l).args.counts.now
-even l = even-counts _ _ _ _ _ _ (at-start l).requires.0.judged
+even l = even_counts _ _ _ _ _ _ (at-start l).requires.0.judged
 
 room_for : (l : tie.At-loop invariant-loop decreases-loop) → l.loop.a < l.loop.b → l.loop.depth < 64
-room_for l = stack-room _ _ _ _ _ _ _ (at-start l).requires.0 _ _ _ _ _ _ _ _ _ _ _ _ l.loop.invariant
+room_for l = stack_room _ _ _ _ _ _ _ (at-start l).requires.0 _ _ _ _ _ _ _ _ _ _ _ _ l.loop.invariant
 
 skipped : (l : tie.At-loop invariant-loop decreases-loop) → l.loop.a < l.loop.b → l.loop.s + get_or (at-start l).args.counts.now l.loop.b 0 ≤ 1024
-skipped l = skips-small _ _ _ _ _ _ _ (at-start l).requires.0 _ _ _ _ _ _ _ _ _ _ _ _ l.loop.invariant
+skipped l = skips_small _ _ _ _ _ _ _ (at-start l).requires.0 _ _ _ _ _ _ _ _ _ _ _ _ l.loop.invariant
 
 top : (l : tie.At-loop invariant-loop decreases-loop) → l.loop.b ≤ l.loop.a → (l.loop.depth ≡ 0 → ⊥) → let a = (at-start l).args in
     TopFrame a.counts.now (length a.numbers.now) a.reads l.loop.edges l.loop.ends l.loop.skips (l.loop.depth - 1) l.loop.a
 top l = frame _ _ _ _ _ _ _ (at-start l).requires.0 _ _ _ _ _ _ _ _ _ _ _ _ l.loop.invariant
 
 deep : (l : tie.At-loop invariant-loop decreases-loop) → l.loop.b ≤ l.loop.a → (l.loop.depth ≡ 0 → ⊥) → (0 < l.loop.depth) × (l.loop.depth ≤ 64)
-deep l = frame-depth _ _ _ _ _ _ _ (at-start l).requires.0 _ _ _ _ _ _ _ _ _ _ _ _ l.loop.invariant
+deep l = frame_depth _ _ _ _ _ _ _ (at-start l).requires.0 _ _ _ _ _ _ _ _ _ _ _ _ l.loop.invariant
 
 from_in : (l : tie.At-loop invariant-loop decreases-loop) → l.loop.b ≤ l.loop.a → (l.loop.depth ≡ 0 → ⊥) → l.loop.n < length l.loop.froms
-from_in l = from-room _ _ _ _ _ _ _ (at-start l).requires.0 _ _ _ _ _ _ _ _ _ _ _ _ l.loop.invariant
+from_in l = from_room _ _ _ _ _ _ _ (at-start l).requires.0 _ _ _ _ _ _ _ _ _ _ _ _ l.loop.invariant
 
 to_in : (l : tie.At-loop invariant-loop decreases-loop) → l.loop.b ≤ l.loop.a → (l.loop.depth ≡ 0 → ⊥) → l.loop.n < length l.loop.tos
 to_in l = to_room _ _ _ _ _ _ _ (at-start l).requires.0 _ _ _ _ _ _ _ _ _ _ _ _ l.loop.invariant
@@ -93,7 +93,7 @@ to_in l = to_room _ _ _ _ _ _ _ (at-start l).requires.0 _ _ _ _ _ _ _ _ _ _ _ _ 
 loop-holds : tie.Need-loop-init invariant-loop decreases-loop
 loop-holds c =
     let z = at-start-from-slice-known2 c in
-    read-starts _ _ _ _ _ _ _ _ _ _ _ z.pre.0.judged z.pre.1.0 z.pre.1.1.0 z.pre.1.1.1 refl refl refl
+    read_starts _ _ _ _ _ _ _ _ _ _ _ z.pre.0.judged z.pre.1.0 z.pre.1.1.0 z.pre.1.1.1 refl refl refl
 
 same_length : tie.Need-same-length invariant-loop decreases-loop
 same_length c = c.before.before.loop.invariant.same-froms
@@ -105,7 +105,7 @@ returns : tie.Need-returns invariant-loop decreases-loop
 returns c =
     let l = c.before.before in
     let z = at-start l in
-    read-ends _ _ _ _ _ _ _ z.pre.0 _ _ _ _ _ _ _ _ _ _ _ _ l.loop.invariant c.before.if1.true c.if2.true
+    read_ends _ _ _ _ _ _ _ z.pre.0 _ _ _ _ _ _ _ _ _ _ _ _ l.loop.invariant c.before.if1.true c.if2.true
 
 sub-depth : tie.Need-overflow-sub-depth invariant-loop decreases-loop
 sub-depth c = let n = c.if2.false in omega arith
@@ -224,7 +224,7 @@ loop-again c =
     let t1 = c.before.before.before in
     let l = t1.before in
     let z = at-start l in
-    read-pop _ _ _ _ _ _ _ z.pre.0 _ _ _ _ _ _ _ _ _ _ _ _ l.loop.invariant t1.if1.true c.before.before.if2.false
+    read_pop _ _ _ _ _ _ _ z.pre.0 _ _ _ _ _ _ _ _ _ _ _ _ l.loop.invariant t1.if1.true c.before.before.if2.false
 
 sub-choice-of : tie.Need-overflow-sub-choice-of invariant-loop decreases-loop
 sub-choice-of c = search rules
@@ -233,7 +233,7 @@ choice-of-requires : tie.Need-choice-of-requires invariant-loop decreases-loop
 choice-of-requires c κs =
     let l = c.before in
     let z = at-start l in
-    window-asked _ _ _ _ _ _ _ z.pre.0 _ _ _ _ _ _ _ _ _ _ _ _ l.loop.invariant c.if1.false
+    window_asked _ _ _ _ _ _ _ z.pre.0 _ _ _ _ _ _ _ _ _ _ _ _ l.loop.invariant c.if1.false
 
 mul-s-2 : tie.Need-overflow-mul-s-2 invariant-loop decreases-loop
 mul-s-2 c =
@@ -262,7 +262,7 @@ loop-again-2 c =
     let e1 = c.before.before.before in
     let l = e1.before in
     let z = at-start l in
-    read-skip _ _ _ _ _ _ _ z.pre.0 _ _ _ _ _ _ _ _ _ _ _ _ l.loop.invariant e1.if1.false _ c.before.before.choice-of.ensures c.before.if3.true
+    read_skip _ _ _ _ _ _ _ z.pre.0 _ _ _ _ _ _ _ _ _ _ _ _ l.loop.invariant e1.if1.false _ c.before.before.choice-of.ensures c.before.if3.true
 
 cast-edges : tie.Need-overflow-cast-edges invariant-loop decreases-loop
 cast-edges c =
@@ -331,7 +331,7 @@ loop-again-3 c =
     let e1 = c.before.before.before in
     let l = e1.before in
     let z = at-start l in
-    read-push _ _ _ _ _ _ _ z.pre.0 _ _ _ _ _ _ _ _ _ _ _ _ l.loop.invariant e1.if1.false _ c.before.before.choice-of.ensures c.before.if3.false
+    read_push _ _ _ _ _ _ _ z.pre.0 _ _ _ _ _ _ _ _ _ _ _ _ l.loop.invariant e1.if1.false _ c.before.before.choice-of.ensures c.before.if3.false
 
 pub read-off-spec : {M : Type 1} → statement M
 read-off-spec =

@@ -2,7 +2,7 @@
 -- Assumes nothing.
 use mathlib.Core.Path.{sym, ◌∙◌}
 use lib.Seq.{length-take-le}
-use Rattle.engine_table.proofs.Sizes.{reads-of-part}
+use Rattle.engine_table.proofs.Sizes.{reads_of_part}
 use borrow.Author.Rules.{rules}
 use Rattle.engine_table.proofs.stops.reads_before.Statement.{statement}
 use Rattle.engine_table.proofs.stops.reads_before.Tie as tie
@@ -16,7 +16,7 @@ count-reads-requires c κs = search rules
 returns : tie.Need-returns
 returns c =
     let z = c.before.before.before in
-    c.count-reads.ensures ∙ reads-of-part z.args.counts.now z.args.n z.requires.0 z.requires.1
+    c.count-reads.ensures ∙ reads_of_part z.args.counts.now z.args.n z.requires.0 z.requires.1
 
 pub reads-before-spec : {M : Type 1} → statement M
 reads-before-spec = tie.close (tie.spec slice-aggregate-count-reads count-reads-requires returns)

@@ -1,16 +1,16 @@
 -- `engine_table::stops::row` meets its contract: with few stops and few reads no product wraps.
 -- Assumes nothing.
 use native.Mathlib.Omega.{arith}
-use Rattle.engine_table.proofs.Sizes.{across-small, row_small}
+use Rattle.engine_table.proofs.Sizes.{across_small, row_small}
 use borrow.Author.Rules.{rules}
 use Rattle.engine_table.proofs.stops.row.Statement.{statement}
 use Rattle.engine_table.proofs.stops.row.Tie as tie
 
 mul-result : tie.Need-overflow-mul-result
-mul-result c = omega (arith, across-small _ _ _ _ c.requires)
+mul-result c = omega (arith, across_small _ _ _ _ c.requires)
 
 add-result : tie.Need-overflow-add-result
-add-result c = omega (arith, across-small _ _ _ _ c.requires)
+add-result c = omega (arith, across_small _ _ _ _ c.requires)
 
 add-result-2 : tie.Need-overflow-add-result-2
 add-result-2 c = search rules

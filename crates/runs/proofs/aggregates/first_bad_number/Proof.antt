@@ -3,7 +3,7 @@
 use Prim.Native.Nat.{◌-◌}
 use lib.ListN.{length}
 use Rattle.runs.proofs.Search.{first_none, first_done}
-use Rattle.runs.proofs.Numbers.{NumbersPassed, spanned_none, bad-number-found, number_passed}
+use Rattle.runs.proofs.Numbers.{NumbersPassed, spanned_none, bad_number_found, number_passed}
 use borrow.Author.Rules.{rules}
 use Rattle.runs.proofs.aggregates.first_bad_number.Statement.{statement}
 use Rattle.runs.proofs.aggregates.first_bad_number.Tie as tie
@@ -24,7 +24,7 @@ add-result : tie.Need-overflow-add-result invariant-loop decreases-loop
 add-result c = search rules
 
 returns : tie.Need-returns invariant-loop decreases-loop
-returns c = bad-number-found _ _ _ _ c.before.before.before.loop.invariant (search rules) _ c.before.bad-number.ensures c.if1.true
+returns c = bad_number_found _ _ _ _ c.before.before.before.loop.invariant (search rules) _ c.before.bad-number.ensures c.if1.true
 
 mul-number : tie.Need-overflow-mul-number invariant-loop decreases-loop
 mul-number c = search rules

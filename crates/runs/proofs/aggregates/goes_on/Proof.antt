@@ -1,16 +1,16 @@
 -- `runs::aggregates::goes_on_lem` meets its contract: at the first entry and past the row none does; else the two numbers are compared.
 -- Assumes nothing.
 use mathlib.Core.Path.{sym}
-use Rattle.runs.proofs.Members.{goes-on-zero, goes-on-past, goes-on-row}
+use Rattle.runs.proofs.Members.{goes_on_zero, goes_on_past, goes_on_row}
 use borrow.Author.Rules.{rules}
 use Rattle.runs.proofs.aggregates.goes_on.Statement.{statement}
 use Rattle.runs.proofs.aggregates.goes_on.Tie as tie
 
 returns : tie.Need-returns
-returns c = rw c.if1.true (sym (goes-on-zero _))
+returns c = rw c.if1.true (sym (goes_on_zero _))
 
 returns-2 : tie.Need-returns-2
-returns-2 c = sym (goes-on-past _ _ c.if2.true)
+returns-2 c = sym (goes_on_past _ _ c.if2.true)
 
 sub-before : tie.Need-overflow-sub-before
 sub-before c = search rules
@@ -34,7 +34,7 @@ returns-3 : tie.Need-returns-3
 returns-3 c =
     let first = c.before.before.before.before in
     let a = first.before.before.args in
-    rw (goes-on-row a.aggregates.now a.i first.if1.false) c.same-aggregate.ensures
+    rw (goes_on_row a.aggregates.now a.i first.if1.false) c.same-aggregate.ensures
 
 pub goes-on-spec : {M : Type 1} → statement M
 goes-on-spec =

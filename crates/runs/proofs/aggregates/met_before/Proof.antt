@@ -7,7 +7,7 @@ use lib.ListN.{get_or}
 use lib.Dec.{eqb}
 use borrow.Author.Tests.{eq-eqb, ne_eqb}
 use Rattle.runs.specs.Lists.{any_below}
-use Rattle.runs.proofs.Search.{any_none, any-more, any_here, any-done}
+use Rattle.runs.proofs.Search.{any_none, any_more, any_here, any_done}
 use borrow.Author.Rules.{rules}
 use Rattle.runs.proofs.aggregates.met_before.Statement.{statement}
 use Rattle.runs.proofs.aggregates.met_before.Tie as tie
@@ -37,10 +37,10 @@ loop-less : tie.Need-loop-smaller invariant-loop decreases-loop
 loop-less c = search rules
 
 loop-again : tie.Need-loop-preserved invariant-loop decreases-loop
-loop-again c = (search rules, any-more _ _ c.before.before.before.loop.invariant.1 (ne_eqb _ _ c.if1.false))
+loop-again c = (search rules, any_more _ _ c.before.before.before.loop.invariant.1 (ne_eqb _ _ c.if1.false))
 
 returns-2 : tie.Need-returns-2 invariant-loop decreases-loop
-returns-2 c = let p = c.before.loop.invariant in any-done _ _ _ p.1 p.0 c.loop-test.false
+returns-2 c = let p = c.before.loop.invariant in any_done _ _ _ p.1 p.0 c.loop-test.false
 
 pub met-before-spec : {M : Type 1} → statement M
 met-before-spec =

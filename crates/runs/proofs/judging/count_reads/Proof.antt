@@ -7,7 +7,7 @@ use borrow.Author.Tests.{ltb-true, ltb-false}
 use Rattle.runs.specs.Run.{most_reads}
 use lib.ListN.{length, get_or}
 use native.Mathlib.Omega.{arith}
-use Rattle.runs.proofs.Accepted.{Counted, over-limit, counted-more, within_limit, total_end}
+use Rattle.runs.proofs.Accepted.{Counted, over_limit, counted_more, within_limit, total_end}
 use Rattle.runs.proofs.judging.count_reads.Statement.{statement}
 use Rattle.runs.proofs.judging.count_reads.Tie as tie
 
@@ -32,7 +32,7 @@ passes-most-requires c κs = search rules
 returns : tie.Need-returns invariant-loop decreases-loop
 returns c =
     let t = c.before in
-    rw (← over-limit _ _ _ t.before.before.before.loop.invariant (search rules) (ltb-true _ _ (sym t.passes-most.ensures ∙ c.if1.true)))
+    rw (← over_limit _ _ _ t.before.before.before.loop.invariant (search rules) (ltb-true _ _ (sym t.passes-most.ensures ∙ c.if1.true)))
 
 fits : (c : tie.Else1 invariant-loop decreases-loop) → let l = c.before.before.before.before in get_or l.before.before.args.counts.now l.loop.i 0 ≤ most_reads - l.loop.sum
 fits c = ltb-false _ _ (sym c.before.passes-most.ensures ∙ c.if1.false)
@@ -47,7 +47,7 @@ loop-less : tie.Need-loop-smaller invariant-loop decreases-loop
 loop-less c = search rules
 
 loop-again : tie.Need-loop-preserved invariant-loop decreases-loop
-loop-again c = counted-more _ _ _ c.before.before.before.before.loop.invariant (search rules) (fits c)
+loop-again c = counted_more _ _ _ c.before.before.before.before.loop.invariant (search rules) (fits c)
 
 returns-2 : tie.Need-returns-2 invariant-loop decreases-loop
 returns-2 c =

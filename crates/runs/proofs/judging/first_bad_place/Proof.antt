@@ -6,7 +6,7 @@ use mathlib.Core.Path.{refl}
 use Rattle.runs.proofs.Search.{first_none, first_done}
 use borrow.Author.Rules.{rules}
 use lib.ListN.{length}
-use Rattle.runs.proofs.Accepted.{FilesPassed, bad-place-found, file-passed, end_fits}
+use Rattle.runs.proofs.Accepted.{FilesPassed, bad_place_found, file_passed, end_fits}
 use Rattle.runs.proofs.judging.first_bad_place.Statement.{statement}
 use Rattle.runs.proofs.judging.first_bad_place.Tie as tie
 
@@ -39,7 +39,7 @@ add-result c = search rules
 
 returns : tie.Need-returns invariant-loop decreases-loop
 returns c =
-    bad-place-found _ _ _ _ c.before.before.before.before.before.loop.invariant (search rules) _ c.before.bad-place.ensures c.if1.true
+    bad_place_found _ _ _ _ c.before.before.before.before.before.loop.invariant (search rules) _ c.before.bad-place.ensures c.if1.true
 
 add-before : tie.Need-overflow-add-before invariant-loop decreases-loop
 add-before c =
@@ -54,7 +54,7 @@ loop-less c = search rules
 
 loop-again : tie.Need-loop-preserved invariant-loop decreases-loop
 loop-again c =
-    file-passed _ _ _ _ c.before.before.before.before.before.loop.invariant (search rules) _ c.before.bad-place.ensures c.if1.false
+    file_passed _ _ _ _ c.before.before.before.before.before.loop.invariant (search rules) _ c.before.bad-place.ensures c.if1.false
 
 returns-2 : tie.Need-returns-2 invariant-loop decreases-loop
 returns-2 c = let p = c.before.loop.invariant in first_done _ _ _ p.none p.within c.loop-test.false

@@ -5,7 +5,7 @@ use Prim.Native.Nat.{◌-◌}
 use lib.ListN.{length}
 use mathlib.Core.Path.{refl}
 use Rattle.runs.proofs.Search.{first_none, first_done}
-use Rattle.runs.proofs.Accepted.{WantsPassed, bad-want-found, want-passed}
+use Rattle.runs.proofs.Accepted.{WantsPassed, bad_want_found, want_passed}
 use Rattle.runs.proofs.judging.first_bad_want.Statement.{statement}
 use Rattle.runs.proofs.judging.first_bad_want.Tie as tie
 
@@ -38,7 +38,7 @@ add-result c = search rules
 
 returns : tie.Need-returns invariant-loop decreases-loop
 returns c =
-    bad-want-found _ _ _ _ _ c.before.before.before.before.before.loop.invariant (search rules) _ c.before.bad_want.ensures c.if1.true
+    bad_want_found _ _ _ _ _ c.before.before.before.before.before.loop.invariant (search rules) _ c.before.bad_want.ensures c.if1.true
 
 add-i : tie.Need-overflow-add-i invariant-loop decreases-loop
 add-i c = search rules
@@ -48,7 +48,7 @@ loop-less c = search rules
 
 loop-again : tie.Need-loop-preserved invariant-loop decreases-loop
 loop-again c =
-    want-passed _ _ _ _ _ c.before.before.before.before.before.loop.invariant (search rules) _ c.before.bad_want.ensures c.if1.false
+    want_passed _ _ _ _ _ c.before.before.before.before.before.loop.invariant (search rules) _ c.before.bad_want.ensures c.if1.false
 
 returns-2 : tie.Need-returns-2 invariant-loop decreases-loop
 returns-2 c = let p = c.before.loop.invariant in first_done _ _ _ p.none p.within c.loop-test.false

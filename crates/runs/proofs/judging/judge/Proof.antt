@@ -4,7 +4,7 @@ use mathlib.Core.Path.{◌∙◌, ap, sym}
 use Rattle.refusals.specs.Refusals.{first_of}
 use Rattle.runs.specs.Run.{run_of}
 use Rattle.runs.specs.Judging.{head_checks}
-use Rattle.runs.proofs.Judged.{run-table-decides, run-table-good, run-wants-decide, run-head-decides, wants_passed, wants_named}
+use Rattle.runs.proofs.Judged.{run_table_decides, run_table_good, run_wants_decide, run_head_decides, wants_passed, wants_named}
 use borrow.Author.Rules.{rules}
 use Rattle.runs.proofs.judging.judge.Statement.{statement}
 use Rattle.runs.proofs.judging.judge.Tie as tie
@@ -16,7 +16,7 @@ refused-requires : tie.Need-refused-requires
 refused-requires c κs = search rules
 
 returns : tie.Need-returns
-returns c = run-table-decides _ _ _ c.before.before.judge-table.ensures c.before.refused.ensures c.if1.true
+returns c = run_table_decides _ _ _ c.before.before.judge-table.ensures c.before.refused.ensures c.if1.true
 
 judge-wants-requires : tie.Need-judge-wants-requires
 judge-wants-requires c κs = search rules
@@ -27,7 +27,7 @@ refused-requires-2 c κs = search rules
 returns-2 : tie.Need-returns-2
 returns-2 c =
     let t = c.before.before.before in
-    run-wants-decide _ _ _ t.before.before.judge-table.ensures t.before.refused.ensures
+    run_wants_decide _ _ _ t.before.before.judge-table.ensures t.before.refused.ensures
     _ _ c.before.before.judge-wants.ensures c.before.refused2.ensures t.if1.false c.if2.true
 
 -- The way back from a place in the code to the one that the name says.
@@ -40,7 +40,7 @@ right-end-joined-requires c κs =
     let jt = t.before.before in
     let a = (at-start jt).args in
     let r = run_of a.starts.now a.lengths.now a.aggregates.now a.numbers.now a.counts.now a.head a.turn in
-    let table = run-table-good r _ _ jt.judge-table.ensures t.before.refused.ensures t.if1.false in
+    let table = run_table_good r _ _ jt.judge-table.ensures t.before.refused.ensures t.if1.false in
     let wants = wants_passed _ a.numbers.now a.counts.now _ _ c.before.before.judge-wants.ensures c.before.refused2.ensures c.if2.false in
     (table.table, (table.rows, wants_named a.starts.now a.numbers.now a.counts.now wants))
 
@@ -57,7 +57,7 @@ returns-3 c =
     let wants = wants_passed _ a.numbers.now a.counts.now _ _ jw.judge-wants.ensures w.before.refused2.ensures w.if2.false in
     c.judge-head.ensures
     ∙ ap (λ e. first_of (head_checks a.turn a.head e)) (c.before.right-end-joined.ensures a.counts.now (sym wants.equal))
-    ∙ run-head-decides _ _ _ jt.judge-table.ensures t.before.refused.ensures
+    ∙ run_head_decides _ _ _ jt.judge-table.ensures t.before.refused.ensures
     _ _ jw.judge-wants.ensures w.before.refused2.ensures t.if1.false w.if2.false
 
 pub judge-spec : {M : Type 1} → statement M

@@ -7,7 +7,7 @@ use Rattle.runs.specs.Run.{last_member}
 use Rattle.runs.specs.Private.{InTable}
 use Rattle.runs.proofs.Members.{last_within_lem}
 use Rattle.runs.proofs.Table.{table_file}
-use Rattle.runs.proofs.Stops.{right_end_none, right-end-some}
+use Rattle.runs.proofs.Stops.{right_end_none, right_end_some}
 use borrow.Author.Rules.{rules}
 use Rattle.runs.proofs.judging.right_end_joined.Statement.{statement}
 use Rattle.runs.proofs.judging.right_end_joined.Tie as tie
@@ -62,7 +62,7 @@ add-result c =
     rw c.before.before.last-member.ensures (omega (arith, (table_file _ _ e.before.before.before.before.before.requires.0 _ (last-inside e)).ends))
 
 returns-2 : tie.Need-returns-2
-returns-2 c = λ cs e. rw c.before.before.last-member.ensures (right-end-some _ _ _ _ cs c.before.before.before.before.if1.false e)
+returns-2 c = λ cs e. rw c.before.before.last-member.ensures (right_end_some _ _ _ _ cs c.before.before.before.before.if1.false e)
 
 pub right-end-joined-spec : {M : Type 1} → statement M
 right-end-joined-spec =

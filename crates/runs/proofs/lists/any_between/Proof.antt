@@ -2,7 +2,7 @@
 -- Assumes nothing.
 use Prim.Native.Nat.{◌-◌}
 use lib.ListN.{length}
-use Rattle.runs.proofs.Entries.{Looked, looked_none, looked-on, between-here, between-nowhere}
+use Rattle.runs.proofs.Entries.{Looked, looked_none, looked_on, between_here, between_nowhere}
 use borrow.Author.Rules.{rules}
 use Rattle.runs.proofs.lists.any_between.Statement.{statement}
 use Rattle.runs.proofs.lists.any_between.Tie as tie
@@ -26,7 +26,7 @@ lies-between-requires : tie.Need-lies-between-requires invariant-loop decreases-
 lies-between-requires c κs = search rules
 
 returns : tie.Need-returns invariant-loop decreases-loop
-returns c = between-here _ _ _ _ c.before.before.before.before.loop.invariant (search rules) _ c.before.lies-between.ensures c.if1.true
+returns c = between_here _ _ _ _ c.before.before.before.before.loop.invariant (search rules) _ c.before.lies-between.ensures c.if1.true
 
 add-i : tie.Need-overflow-add-i invariant-loop decreases-loop
 add-i c = search rules
@@ -35,10 +35,10 @@ loop-less : tie.Need-loop-smaller invariant-loop decreases-loop
 loop-less c = search rules
 
 loop-again : tie.Need-loop-preserved invariant-loop decreases-loop
-loop-again c = looked-on _ _ _ _ c.before.before.before.before.loop.invariant (search rules) _ c.before.lies-between.ensures c.if1.false
+loop-again c = looked_on _ _ _ _ c.before.before.before.before.loop.invariant (search rules) _ c.before.lies-between.ensures c.if1.false
 
 returns-2 : tie.Need-returns-2 invariant-loop decreases-loop
-returns-2 c = between-nowhere _ _ _ _ c.before.loop.invariant c.loop-test.false
+returns-2 c = between_nowhere _ _ _ _ c.before.loop.invariant c.loop-test.false
 
 pub any-between-spec : {M : Type 1} → statement M
 any-between-spec =

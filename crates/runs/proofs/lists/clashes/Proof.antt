@@ -1,7 +1,7 @@
 -- `runs::lists::clashes` meets its contract: no entry before j clashes.
 -- Assumes nothing.
 use Prim.Native.Nat.{◌-◌}
-use Rattle.runs.proofs.Entries.{Unclashed, unclashed-none, unclashed-more, unclashed-all, clash-found}
+use Rattle.runs.proofs.Entries.{Unclashed, unclashed_none, unclashed_more, unclashed_all, clash_found}
 use borrow.Author.Rules.{rules}
 use Rattle.runs.proofs.lists.clashes.Statement.{statement}
 use Rattle.runs.proofs.lists.clashes.Tie as tie
@@ -25,7 +25,7 @@ shared-slice-read-to : tie.Need-shared-slice-read-to invariant-loop decreases-lo
 shared-slice-read-to c = search rules
 
 loop-holds : tie.Need-loop-init invariant-loop decreases-loop
-loop-holds c = unclashed-none _ _ _
+loop-holds c = unclashed_none _ _ _
 
 mul-bad-after : tie.Need-overflow-mul-bad-after invariant-loop decreases-loop
 mul-bad-after c = search rules
@@ -43,7 +43,7 @@ bad-after-requires : tie.Need-bad-after-requires invariant-loop decreases-loop
 bad-after-requires c κs = search rules
 
 returns : tie.Need-returns invariant-loop decreases-loop
-returns c = clash-found _ _ _ _ c.before.before.before.before.before.loop.invariant _ c.before.bad-after.ensures (search rules) c.if1.true
+returns c = clash_found _ _ _ _ c.before.before.before.before.before.loop.invariant _ c.before.bad-after.ensures (search rules) c.if1.true
 
 add-j : tie.Need-overflow-add-j invariant-loop decreases-loop
 add-j c = search rules
@@ -52,10 +52,10 @@ loop-less : tie.Need-loop-smaller invariant-loop decreases-loop
 loop-less c = search rules
 
 loop-again : tie.Need-loop-preserved invariant-loop decreases-loop
-loop-again c = unclashed-more _ _ _ _ c.before.before.before.before.before.loop.invariant _ c.before.bad-after.ensures (search rules) c.if1.false
+loop-again c = unclashed_more _ _ _ _ c.before.before.before.before.before.loop.invariant _ c.before.bad-after.ensures (search rules) c.if1.false
 
 returns-2 : tie.Need-returns-2 invariant-loop decreases-loop
-returns-2 c = unclashed-all _ _ _ _ c.before.loop.invariant c.loop-test.false
+returns-2 c = unclashed_all _ _ _ _ c.before.loop.invariant c.loop-test.false
 
 pub clashes-spec : {M : Type 1} → statement M
 clashes-spec =

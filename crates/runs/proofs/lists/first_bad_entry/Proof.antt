@@ -4,7 +4,7 @@ use borrow.Author.Rules.{rules}
 use Prim.Native.Nat.{◌-◌}
 use lib.ListN.{length}
 use Rattle.runs.proofs.Search.{first_none, first_done}
-use Rattle.runs.proofs.Entries.{EntriesPassed, bad-by-itself, bad-against, entry-passed}
+use Rattle.runs.proofs.Entries.{EntriesPassed, bad_by_itself, bad_against, entry_passed}
 use Rattle.runs.proofs.lists.first_bad_entry.Statement.{statement}
 use Rattle.runs.proofs.lists.first_bad_entry.Tie as tie
 
@@ -36,7 +36,7 @@ add-result : tie.Need-overflow-add-result invariant-loop decreases-loop
 add-result c = search rules
 
 returns : tie.Need-returns invariant-loop decreases-loop
-returns c = bad-by-itself _ _ _ _ _ c.before.before.before.before.before.loop.invariant (search rules) _ c.before.bad-alone.ensures c.if1.true
+returns c = bad_by_itself _ _ _ _ _ c.before.before.before.before.before.loop.invariant (search rules) _ c.before.bad-alone.ensures c.if1.true
 
 clashes-requires : tie.Need-clashes-requires invariant-loop decreases-loop
 clashes-requires c κs = search rules
@@ -47,7 +47,7 @@ add-result-2 c = search rules
 returns-2 : tie.Need-returns-2 invariant-loop decreases-loop
 returns-2 c =
     let b = c.before.before in
-    bad-against _ _ _ _ _ b.before.before.before.before.before.loop.invariant (search rules) _ b.before.bad-alone.ensures _ c.before.clashes.ensures c.if2.true
+    bad_against _ _ _ _ _ b.before.before.before.before.before.loop.invariant (search rules) _ b.before.bad-alone.ensures _ c.before.clashes.ensures c.if2.true
 
 add-i : tie.Need-overflow-add-i invariant-loop decreases-loop
 add-i c = search rules
@@ -58,7 +58,7 @@ loop-less c = search rules
 loop-again : tie.Need-loop-preserved invariant-loop decreases-loop
 loop-again c =
     let b = c.before.before in
-    entry-passed _ _ _ _ _ b.before.before.before.before.before.loop.invariant (search rules) _ b.before.bad-alone.ensures _ c.before.clashes.ensures b.if1.false c.if2.false
+    entry_passed _ _ _ _ _ b.before.before.before.before.before.loop.invariant (search rules) _ b.before.bad-alone.ensures _ c.before.clashes.ensures b.if1.false c.if2.false
 
 returns-3 : tie.Need-returns-3 invariant-loop decreases-loop
 returns-3 c = let p = c.before.loop.invariant in first_done _ _ _ p.none p.within c.loop-test.false

@@ -1,13 +1,13 @@
 -- `runs::lists::is_later_member` meets its contract: number 0 is no file; else by the index.
 -- Assumes nothing.
 use mathlib.Core.Path.{sym}
-use Rattle.runs.proofs.Members.{goes-on-zero}
+use Rattle.runs.proofs.Members.{goes_on_zero}
 use borrow.Author.Rules.{rules}
 use Rattle.runs.proofs.lists.is_later_member.Statement.{statement}
 use Rattle.runs.proofs.lists.is_later_member.Tie as tie
 
 returns : tie.Need-returns
-returns c = rw c.if1.true (sym (goes-on-zero _))
+returns c = rw c.if1.true (sym (goes_on_zero _))
 
 sub-goes-on : tie.Need-overflow-sub-goes-on
 sub-goes-on c = search rules

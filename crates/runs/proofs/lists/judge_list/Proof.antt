@@ -6,7 +6,7 @@ use Rattle.refusals.specs.declared.Refusal.TheVariants.{BadEntry}
 use Rattle.refusals.specs.Refusals.{refuse_if, refuse_at}
 use Rattle.refusals.proofs.Verdicts.{test_says, accepts_if, last_at_lem}
 use Rattle.runs.specs.Lists.{list_verdict}
-use Rattle.runs.proofs.Entries.{first-bad-row}
+use Rattle.runs.proofs.Entries.{first_bad_row}
 use borrow.Author.Rules.{rules}
 use Rattle.runs.proofs.lists.judge_list.Statement.{statement}
 use Rattle.runs.proofs.lists.judge_list.Tie as tie
@@ -38,7 +38,7 @@ returns-2 c = λ s l cs same.
     let is = passed.before.before.refuse-if.ensures in
     let pass = test_says is passed.before.refused.ensures passed.if1.false in
     let even = eqb-true _ _ (not-false _ (accepts_if _ BadEntry refl pass)) in
-    let found = c.before.first-bad-entry.ensures ∙ sym (first-bad-row s l a.aggregates.now a.numbers.now cs same a.froms.now a.tos.now even) in
+    let found = c.before.first-bad-entry.ensures ∙ sym (first_bad_row s l a.aggregates.now a.numbers.now cs same a.froms.now a.tos.now even) in
     rw pass (last_at_lem BadEntry refl c.refuse-at.ensures found)
 
 pub judge-list-spec : {M : Type 1} → statement M

@@ -4,7 +4,7 @@ use borrow.Author.Rules.{rules}
 use Prim.Native.Nat.{◌-◌}
 use native.Mathlib.Omega.{arith}
 use Rattle.text_paths.specs.Paths.{line_count}
-use Rattle.sheet_picks.proofs.Laying.{EntrySoFar, entry-none, entry_more, entry-all}
+use Rattle.sheet_picks.proofs.Laying.{EntrySoFar, entry_none, entry_more, entry_all}
 use Rattle.sheet_picks.proofs.names.put_entry.Statement.{statement}
 use Rattle.sheet_picks.proofs.names.put_entry.Tie as tie
 
@@ -22,7 +22,7 @@ count-lines-requires : tie.Need-count-lines-requires invariant-loop decreases-lo
 count-lines-requires c κs = search rules
 
 loop-holds : tie.Need-loop-init invariant-loop decreases-loop
-loop-holds c = entry-none _ _ _ _ _ _ _ _
+loop-holds c = entry_none _ _ _ _ _ _ _ _
 
 put-line-name-requires : tie.Need-put-line-name-requires invariant-loop decreases-loop
 put-line-name-requires c κs = ((at-start-from-put-line-name-arg c).requires, (c.before.before.before.count-lines.ensures, c.before.loop-test.true))
@@ -43,7 +43,7 @@ same_length c = c.before.loop.invariant.so_far.long
 
 returns : tie.Need-returns invariant-loop decreases-loop
 returns c =
-    entry-all _ _ _ _ _ _ _ _ _ _ _ c.before.loop.invariant (omega (arith, c.before.before.count-lines.ensures, c.loop-test.false))
+    entry_all _ _ _ _ _ _ _ _ _ _ _ c.before.loop.invariant (omega (arith, c.before.before.count-lines.ensures, c.loop-test.false))
 
 pub put-entry-spec : {M : Type 1} → statement M
 put-entry-spec = tie.close (tie.spec invariant-loop decreases-loop count-lines-requires loop-holds put-line-name-requires add-i loop-less loop-again same_length returns)

@@ -2,7 +2,7 @@
 -- Assumes nothing.
 use borrow.Author.Rules.{rules}
 use native.Mathlib.Omega.{arith}
-use Rattle.sheet_picks.proofs.Laying.{laid-outside, laid-later, laid-name}
+use Rattle.sheet_picks.proofs.Laying.{laid_outside, laid_later, laid_name}
 use Rattle.sheet_picks.proofs.names.put_line_name.Statement.{statement}
 use Rattle.sheet_picks.proofs.names.put_line_name.Tie as tie
 
@@ -36,14 +36,14 @@ lies-in-requires c κs = search rules
 
 returns : tie.Need-returns
 returns c =
-    laid-outside c.before.before.before.before.before.before.before.args.list.now c.before.before.before.before.before.before.before.args.starts.now _ _ _ _ _ _ _ _ c.before.lies_in.ensures c.if1.true
+    laid_outside c.before.before.before.before.before.before.before.args.list.now c.before.before.before.before.before.before.before.args.starts.now _ _ _ _ _ _ _ _ c.before.lies_in.ensures c.if1.true
 
 first-reads-requires : tie.Need-first-reads-requires
 first-reads-requires c κs = c.before.before.before.before.before.before.before.requires
 
 returns-2 : tie.Need-returns-2
 returns-2 c =
-    laid-later (at-start-from-then2 c).args.list.now (at-start-from-then2 c).args.starts.now _ _ _ _ _ _ _ _ c.before.before.before.lies_in.ensures c.before.before.if1.false (omega (arith, (at-start-from-then2 c).requires.1)) _ c.before.first_reads.ensures c.if2.true
+    laid_later (at-start-from-then2 c).args.list.now (at-start-from-then2 c).args.starts.now _ _ _ _ _ _ _ _ c.before.before.before.lies_in.ensures c.before.before.if1.false (omega (arith, (at-start-from-then2 c).requires.1)) _ c.before.first_reads.ensures c.if2.true
 
 mul-from : tie.Need-overflow-mul-from
 mul-from c = search rules
@@ -77,7 +77,7 @@ same_length c = c.before.before.put-name.ensures.long
 
 returns-3 : tie.Need-returns-3
 returns-3 c =
-    laid-name (at-start-from-slice-known2 c).args.list.now (at-start-from-slice-known2 c).args.starts.now _ _ _ _ _ _ _ _ (at-after-lies-in-from-slice-known2 c).lies_in.ensures (at-else1-from-slice-known2 c).if1.false (omega (arith, (at-start-from-slice-known2 c).requires.1)) _ (at-after-first-reads-from-slice-known2 c).first_reads.ensures c.before.before.before.before.before.before.before.if2.false _ _ ((at-start-from-slice-known2 c).requires.0.stands (at-start-from-slice-known2 c).args.i (omega (arith, (at-start-from-slice-known2 c).requires.1))) _ _ c.before.before.put-name.ensures
+    laid_name (at-start-from-slice-known2 c).args.list.now (at-start-from-slice-known2 c).args.starts.now _ _ _ _ _ _ _ _ (at-after-lies-in-from-slice-known2 c).lies_in.ensures (at-else1-from-slice-known2 c).if1.false (omega (arith, (at-start-from-slice-known2 c).requires.1)) _ (at-after-first-reads-from-slice-known2 c).first_reads.ensures c.before.before.before.before.before.before.before.if2.false _ _ ((at-start-from-slice-known2 c).requires.0.stands (at-start-from-slice-known2 c).args.i (omega (arith, (at-start-from-slice-known2 c).requires.1))) _ _ c.before.before.put-name.ensures
 
 pub put-line-name-spec : {M : Type 1} → statement M
 put-line-name-spec = tie.close (tie.spec lies-in-requires returns first-reads-requires returns-2 mul-from shared-slice-read-from mul-end shared-slice-read-end sub-put-name part-put-name-start part-put-name-end put-name-requires same_length returns-3)

@@ -3,8 +3,8 @@
 use borrow.Author.Rules.{rules}
 use native.Mathlib.Omega.{arith}
 use borrow.Author.Tests.{not-true, not-false}
-use Rattle.text_pages.proofs.Pages.{wrote-long}
-use Rattle.sheet_picks.proofs.Laying.{part_size, name-measured, name-over, name-put}
+use Rattle.text_pages.proofs.Pages.{wrote_long}
+use Rattle.sheet_picks.proofs.Laying.{part_size, name_measured, name_over, name_put}
 use Rattle.sheet_picks.proofs.names.put_name.Statement.{statement}
 use Rattle.sheet_picks.proofs.names.put_name.Tie as tie
 
@@ -44,11 +44,11 @@ next-at-requires c κs = search rules
 
 returns : tie.Need-returns
 returns c =
-    rw (not-true c.before.before.before.before.before.before.before.args.writing c.if1.true) (name-measured c.before.before.before.before.before.before.before.args.row.now _ c.before.before.before.before.before.before.before.args.number c.before.before.before.before.before.before.before.args.reads c.before.before.before.before.before.before.before.args.path.now _ _ _ c.before.before.before.put-head.ensures _ c.before.next-at.ensures)
+    rw (not-true c.before.before.before.before.before.before.before.args.writing c.if1.true) (name_measured c.before.before.before.before.before.before.before.args.row.now _ c.before.before.before.before.before.before.before.args.number c.before.before.before.before.before.before.before.args.reads c.before.before.before.before.before.before.before.args.path.now _ _ _ c.before.before.before.put-head.ensures _ c.before.next-at.ensures)
 
 returns-2 : tie.Need-returns-2
 returns-2 c =
-    name-over (at-start-from-then2 c).args.row.now _ (at-start-from-then2 c).args.number (at-start-from-then2 c).args.reads (at-start-from-then2 c).args.path.now _ _ _ c.before.before.before.before.put-head.ensures _ c.before.before.next-at.ensures c.if2.true _ (not-false (at-start-from-then2 c).args.writing c.before.if1.false)
+    name_over (at-start-from-then2 c).args.row.now _ (at-start-from-then2 c).args.number (at-start-from-then2 c).args.reads (at-start-from-then2 c).args.path.now _ _ _ c.before.before.before.before.put-head.ensures _ c.before.before.next-at.ensures c.if2.true _ (not-false (at-start-from-then2 c).args.writing c.before.if1.false)
 
 array-share-prefix-page : tie.Need-array-share-prefix-page
 array-share-prefix-page c = search rules
@@ -67,11 +67,11 @@ put-line-requires c κs = search rules
 
 same_length : tie.Need-same-length
 same_length c =
-    (name-put (at-start-from-slice-known3 c).args.row.now _ (at-start-from-slice-known3 c).args.number (at-start-from-slice-known3 c).args.reads (at-start-from-slice-known3 c).args.path.now _ _ _ (at-after-put-head-from-slice-known3 c).put-head.ensures _ (at-after-next-at-from-slice-known3 c).next-at.ensures (at-else2-from-slice-known3 c).if2.false _ _ c.before.before.before.before.before.before.before.put.ensures _ _ c.before.before.put-line.ensures _ (not-false (at-start-from-slice-known3 c).args.writing (at-else1-from-slice-known3 c).if1.false)).long
+    (name_put (at-start-from-slice-known3 c).args.row.now _ (at-start-from-slice-known3 c).args.number (at-start-from-slice-known3 c).args.reads (at-start-from-slice-known3 c).args.path.now _ _ _ (at-after-put-head-from-slice-known3 c).put-head.ensures _ (at-after-next-at-from-slice-known3 c).next-at.ensures (at-else2-from-slice-known3 c).if2.false _ _ c.before.before.before.before.before.before.before.put.ensures _ _ c.before.before.put-line.ensures _ (not-false (at-start-from-slice-known3 c).args.writing (at-else1-from-slice-known3 c).if1.false)).long
 
 returns-3 : tie.Need-returns-3
 returns-3 c =
-    name-put (at-start-from-slice-known3 c).args.row.now _ (at-start-from-slice-known3 c).args.number (at-start-from-slice-known3 c).args.reads (at-start-from-slice-known3 c).args.path.now _ _ _ (at-after-put-head-from-slice-known3 c).put-head.ensures _ (at-after-next-at-from-slice-known3 c).next-at.ensures (at-else2-from-slice-known3 c).if2.false _ _ c.before.before.before.before.before.before.before.put.ensures _ _ c.before.before.put-line.ensures _ (not-false (at-start-from-slice-known3 c).args.writing (at-else1-from-slice-known3 c).if1.false)
+    name_put (at-start-from-slice-known3 c).args.row.now _ (at-start-from-slice-known3 c).args.number (at-start-from-slice-known3 c).args.reads (at-start-from-slice-known3 c).args.path.now _ _ _ (at-after-put-head-from-slice-known3 c).put-head.ensures _ (at-after-next-at-from-slice-known3 c).next-at.ensures (at-else2-from-slice-known3 c).if2.false _ _ c.before.before.before.before.before.before.before.put.ensures _ _ c.before.before.put-line.ensures _ (not-false (at-start-from-slice-known3 c).args.writing (at-else1-from-slice-known3 c).if1.false)
 
 pub put-name-spec : {M : Type 1} → statement M
 put-name-spec = tie.close (tie.spec slice-aggregate-put-head put-head-requires add-next-at add-next-at-2 next-at-requires returns returns-2 array-share-prefix-page slice-aggregate-put put-requires slice-aggregate-put-line put-line-requires same_length returns-3)

@@ -4,7 +4,7 @@ use borrow.Author.Rules.{rules}
 use Prim.Native.Nat.{◌-◌}
 use native.Mathlib.Omega.{arith}
 use lib.ListN.{length}
-use Rattle.sheet_picks.proofs.Laying.{NamesSoFar, names-none, names_more, names-all}
+use Rattle.sheet_picks.proofs.Laying.{NamesSoFar, names_none, names_more, names_all}
 use Rattle.sheet_picks.proofs.names.put_names.Statement.{statement}
 use Rattle.sheet_picks.proofs.names.put_names.Tie as tie
 
@@ -28,7 +28,7 @@ abbrev at-start-from-loop : tie.After-loop invariant-loop decreases-loop → tie
 at-start-from-loop c = c.before.before.before.before.before.before.before.before.before
 
 loop-holds : tie.Need-loop-init invariant-loop decreases-loop
-loop-holds c = names-none _ _ _ _ _ _
+loop-holds c = names_none _ _ _ _ _ _
 
 add-t15 : tie.Need-overflow-add-t15 invariant-loop decreases-loop
 add-t15 c = search rules
@@ -62,7 +62,7 @@ same_length : tie.Need-same-length invariant-loop decreases-loop
 same_length c = c.before.loop.invariant.so_far.long
 
 returns : tie.Need-returns invariant-loop decreases-loop
-returns c = names-all _ _ _ _ _ _ (at-start-from-loop c).requires.1 _ _ _ c.before.loop.invariant c.loop-test.false
+returns c = names_all _ _ _ _ _ _ (at-start-from-loop c).requires.1 _ _ _ c.before.loop.invariant c.loop-test.false
 
 pub put-names-spec : {M : Type 1} → statement M
 put-names-spec = tie.close (tie.spec invariant-loop decreases-loop loop-holds add-t15 mul-t12 shared-slice-read-t17 mul-t18 shared-slice-read-t20 put-entry-requires add-k loop-less loop-again same_length returns)

@@ -4,7 +4,7 @@ use borrow.Author.Rules.{rules}
 use Prim.Native.Nat.{◌-◌}
 use mathlib.Core.Path.{sym}
 use native.Mathlib.Omega.{arith}
-use Rattle.sheet_picks.proofs.Lines.{ReadsSeen, seen_none, seen_more, seen-earlier, seen_all}
+use Rattle.sheet_picks.proofs.Lines.{ReadsSeen, seen_none, seen_more, seen_earlier, seen_all}
 use Rattle.sheet_picks.proofs.paths.first_reads.Statement.{statement}
 use Rattle.sheet_picks.proofs.paths.first_reads.Tie as tie
 
@@ -26,7 +26,7 @@ same-path-requires c κs =
     (c.before.before.before.before.before.requires.0, (omega (arith, c.before.before.before.before.before.requires.1), omega (arith, c.before.before.before.before.before.requires.1.0, c.loop-test.true)))
 
 returns : tie.Need-returns invariant-loop decreases-loop
-returns c = seen-earlier _ _ _ _ c.before.before.before.loop.invariant _ c.before.same-path.ensures c.if1.true
+returns c = seen_earlier _ _ _ _ c.before.before.before.loop.invariant _ c.before.same-path.ensures c.if1.true
 
 one-if-requires : tie.Need-one-if-requires invariant-loop decreases-loop
 one-if-requires c κs = omega (arith, c.before.before.before.loop.invariant.small)

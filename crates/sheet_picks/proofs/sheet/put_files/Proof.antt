@@ -6,7 +6,7 @@ use native.Mathlib.Omega.{arith}
 use mathlib.Core.Path.{refl}
 use lib.ListN.{length}
 use Rattle.text_pages.proofs.Pages.{LinesPut, lines_put_none}
-use Rattle.sheet_picks.proofs.Sheets.{file_lines, file-put, files-put}
+use Rattle.sheet_picks.proofs.Sheets.{file_lines, file_put, files_put}
 use Rattle.sheet_picks.proofs.sheet.put_files.Statement.{statement}
 use Rattle.sheet_picks.proofs.sheet.put_files.Tie as tie
 
@@ -58,14 +58,14 @@ loop-less c = search rules
 
 loop-again : tie.Need-loop-preserved invariant-loop decreases-loop
 loop-again c =
-    file-put _ _ _ _ (at-start-from-slice-known2 c).requires.0 (at-start-from-slice-known2 c).requires.1 _ _ _ (at-loop-from-slice-known2 c).loop.invariant c.before.before.before.before.before.before.before.loop-test.true _ refl _ _ c.before.before.put-triple-line.ensures
+    file_put _ _ _ _ (at-start-from-slice-known2 c).requires.0 (at-start-from-slice-known2 c).requires.1 _ _ _ (at-loop-from-slice-known2 c).loop.invariant c.before.before.before.before.before.before.before.loop-test.true _ refl _ _ c.before.before.put-triple-line.ensures
 
 same_length : tie.Need-same-length invariant-loop decreases-loop
 same_length c = c.before.loop.invariant.long
 
 returns : tie.Need-returns invariant-loop decreases-loop
 returns c =
-    files-put _ _ _ _ c.before.before.before.before.before.requires.0 c.before.before.before.before.before.requires.1 _ _ _ c.before.loop.invariant c.loop-test.false
+    files_put _ _ _ _ c.before.before.before.before.before.requires.0 c.before.before.before.before.before.requires.1 _ _ _ c.before.loop.invariant c.loop-test.false
 
 pub put-files-spec : {M : Type 1} → statement M
 put-files-spec = tie.close (tie.spec invariant-loop decreases-loop loop-holds mul-first shared-slice-read-first slice-aggregate-put-triple-line mul-put-triple-line shared-slice-read-put-triple-line sub-put-triple-line put-triple-line-requires add-i loop-less loop-again same_length returns)

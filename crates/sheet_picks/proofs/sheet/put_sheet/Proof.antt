@@ -3,9 +3,9 @@
 use borrow.Author.Rules.{rules}
 use native.Mathlib.Omega.{arith}
 use mathlib.Core.Path.{◌∙◌, ap}
-use Rattle.text_pages.proofs.Pages.{wrote-long}
+use Rattle.text_pages.proofs.Pages.{wrote_long}
 use Rattle.sheet_picks.specs.Sheets.{given_or}
-use Rattle.sheet_picks.proofs.Sheets.{files-room, wants-room, sheet-put}
+use Rattle.sheet_picks.proofs.Sheets.{files_room, wants_room, sheet_put}
 use Rattle.sheet_picks.proofs.sheet.put_sheet.Statement.{statement}
 use Rattle.sheet_picks.proofs.sheet.put_sheet.Tie as tie
 
@@ -57,7 +57,7 @@ put-top-requires c κs = ((at-start-from-put-top-arg c).requires.0, omega (arith
 
 put-files-requires : tie.Need-put-files-requires
 put-files-requires c κs =
-    ((at-start-from-put-files-arg c).requires.1.0, files-room (at-start-from-put-files-arg c).args.name.now (at-start-from-put-files-arg c).args.starts.now (at-start-from-put-files-arg c).args.firsts.now (at-start-from-put-files-arg c).args.lasts.now (at-start-from-put-files-arg c).args.head.now (at-start-from-put-files-arg c).args.turn.now (at-start-from-put-files-arg c).requires.1.1.0 _ (at-start-from-put-files-arg c).requires.1.1.1 _ _ _ _ c.before.before.before.put-top.ensures)
+    ((at-start-from-put-files-arg c).requires.1.0, files_room (at-start-from-put-files-arg c).args.name.now (at-start-from-put-files-arg c).args.starts.now (at-start-from-put-files-arg c).args.firsts.now (at-start-from-put-files-arg c).args.lasts.now (at-start-from-put-files-arg c).args.head.now (at-start-from-put-files-arg c).args.turn.now (at-start-from-put-files-arg c).requires.1.1.0 _ (at-start-from-put-files-arg c).requires.1.1.1 _ _ _ _ c.before.before.before.put-top.ensures)
 
 slice-aggregate-put-number-line : tie.Need-slice-aggregate-put-number-line
 slice-aggregate-put-number-line c = search rules
@@ -68,21 +68,21 @@ put-number-line-requires c κs = search rules
 put-wants-requires : tie.Need-put-wants-requires
 put-wants-requires c κs =
     let s = at-start-from-put-wants-arg c in
-    (s.pre.1.0, wants-room s.args.name.now s.args.starts.now s.args.firsts.now s.args.lasts.now s.args.head.now s.args.turn.now s.pre.1.1.0 _ s.pre.1.1.1 _ _ _ _ (at-after-put-top-from-put-wants-arg c).put-top.ensures _ _ (at-after-put-files-from-put-wants-arg c).put-files.ensures _ _ c.before.before.before.put-number-line.ensures)
+    (s.pre.1.0, wants_room s.args.name.now s.args.starts.now s.args.firsts.now s.args.lasts.now s.args.head.now s.args.turn.now s.pre.1.1.0 _ s.pre.1.1.1 _ _ _ _ (at-after-put-top-from-put-wants-arg c).put-top.ensures _ _ (at-after-put-files-from-put-wants-arg c).put-files.ensures _ _ c.before.before.before.put-number-line.ensures)
 
 same_length : tie.Need-same-length
 same_length c =
     let s = at-start-from-slice-known5 c in
     let h = (at-after-given-or-from-slice-known5 c).given-or.ensures ∙ ap (λ x. given_or x s.args.head.now) (at-after-last-end-from-slice-known5 c).last_end.ensures in
-    wrote-long
-    (sheet-put s.args.name.now s.args.starts.now s.args.firsts.now s.args.lasts.now s.args.head.now s.args.turn.now s.pre.1.1.0 _ s.pre.1.1.1 _ _ _ _ (at-after-put-top-from-slice-known5 c).put-top.ensures _ _ (at-after-put-files-from-slice-known5 c).put-files.ensures _ _ c.before.before.before.before.before.before.put-number-line.ensures h (at-after-given-or2-from-slice-known5 c).given-or2.ensures _ _ c.before.before.put-wants.ensures)
+    wrote_long
+    (sheet_put s.args.name.now s.args.starts.now s.args.firsts.now s.args.lasts.now s.args.head.now s.args.turn.now s.pre.1.1.0 _ s.pre.1.1.1 _ _ _ _ (at-after-put-top-from-slice-known5 c).put-top.ensures _ _ (at-after-put-files-from-slice-known5 c).put-files.ensures _ _ c.before.before.before.before.before.before.put-number-line.ensures h (at-after-given-or2-from-slice-known5 c).given-or2.ensures _ _ c.before.before.put-wants.ensures)
     s.pre.1.1.1
 
 returns : tie.Need-returns
 returns c =
     let s = at-start-from-slice-known5 c in
     let h = (at-after-given-or-from-slice-known5 c).given-or.ensures ∙ ap (λ x. given_or x s.args.head.now) (at-after-last-end-from-slice-known5 c).last_end.ensures in
-    sheet-put s.args.name.now s.args.starts.now s.args.firsts.now s.args.lasts.now s.args.head.now s.args.turn.now s.pre.1.1.0 _ s.pre.1.1.1 _ _ _ _ (at-after-put-top-from-slice-known5 c).put-top.ensures _ _ (at-after-put-files-from-slice-known5 c).put-files.ensures _ _ c.before.before.before.before.before.before.put-number-line.ensures h (at-after-given-or2-from-slice-known5 c).given-or2.ensures _ _ c.before.before.put-wants.ensures
+    sheet_put s.args.name.now s.args.starts.now s.args.firsts.now s.args.lasts.now s.args.head.now s.args.turn.now s.pre.1.1.0 _ s.pre.1.1.1 _ _ _ _ (at-after-put-top-from-slice-known5 c).put-top.ensures _ _ (at-after-put-files-from-slice-known5 c).put-files.ensures _ _ c.before.before.before.before.before.before.put-number-line.ensures h (at-after-given-or2-from-slice-known5 c).given-or2.ensures _ _ c.before.before.put-wants.ensures
 
 pub put-sheet-spec : {M : Type 1} → statement M
 put-sheet-spec = tie.close (tie.spec last-end-requires given-or-requires given-or-requires-2 put-top-requires put-files-requires slice-aggregate-put-number-line put-number-line-requires put-wants-requires same_length returns)

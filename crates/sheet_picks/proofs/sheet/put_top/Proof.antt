@@ -3,7 +3,7 @@
 use borrow.Author.Rules.{rules}
 use native.Mathlib.Omega.{arith}
 use Rattle.sheet_writer.specs.Writing.{top_text}
-use Rattle.text_pages.proofs.Pages.{wrote_on, wrote-within}
+use Rattle.text_pages.proofs.Pages.{wrote_on, wrote_within}
 use Rattle.sheet_picks.proofs.sheet.put_top.Statement.{statement}
 use Rattle.sheet_picks.proofs.sheet.put_top.Tie as tie
 
@@ -65,7 +65,7 @@ returns c =
     let two = wrote_on one (omega arith) (at-after-put-number-line-from-slice-known6 c).put-number-line.ensures in
     let three = wrote_on two (omega arith) (at-after-put-number-line2-from-slice-known6 c).put-number-line2.ensures in
     let four = wrote_on three (omega arith) c.before.before.before.before.before.before.before.put-line2.ensures in
-    wrote-within (wrote_on four (omega arith) c.before.before.put-number-line3.ensures) _ (omega arith)
+    wrote_within (wrote_on four (omega arith) c.before.before.put-number-line3.ensures) _ (omega arith)
 
 pub put-top-spec : {M : Type 1} → statement M
 put-top-spec = tie.close (tie.spec slice-aggregate-put-line put-line-requires slice-aggregate-put-number-line put-number-line-requires slice-aggregate-put-number-line-2 put-number-line-requires-2 slice-aggregate-put-line-2 slice-aggregate-put-line-3 put-line-requires-2 slice-aggregate-put-number-line-3 put-number-line-requires-3 same_length returns)

@@ -5,7 +5,7 @@ use Prim.Native.Nat.{◌-◌}
 use native.Mathlib.Omega.{arith}
 use lib.ListN.{length}
 use Rattle.text_pages.proofs.Pages.{LinesPut, lines_put_none}
-use Rattle.sheet_picks.proofs.Sheets.{want_lines, want-put, wants-put}
+use Rattle.sheet_picks.proofs.Sheets.{want_lines, want_put, wants_put}
 use Rattle.sheet_picks.proofs.sheet.put_wants.Statement.{statement}
 use Rattle.sheet_picks.proofs.sheet.put_wants.Tie as tie
 
@@ -63,14 +63,14 @@ loop-less c = search rules
 
 loop-again : tie.Need-loop-preserved invariant-loop decreases-loop
 loop-again c =
-    want-put _ _ _ _ _ (at-start-from-slice-known2 c).requires.0 (at-start-from-slice-known2 c).requires.1 _ _ _ (at-loop-from-slice-known2 c).loop.invariant (at-in-loop-from-slice-known2 c).loop-test.true _ c.before.before.before.before.before.reads_in.ensures _ _ c.before.before.put-pair-line.ensures
+    want_put _ _ _ _ _ (at-start-from-slice-known2 c).requires.0 (at-start-from-slice-known2 c).requires.1 _ _ _ (at-loop-from-slice-known2 c).loop.invariant (at-in-loop-from-slice-known2 c).loop-test.true _ c.before.before.before.before.before.reads_in.ensures _ _ c.before.before.put-pair-line.ensures
 
 same_length : tie.Need-same-length invariant-loop decreases-loop
 same_length c = c.before.loop.invariant.long
 
 returns : tie.Need-returns invariant-loop decreases-loop
 returns c =
-    wants-put _ _ _ _ _ c.before.before.before.before.before.before.requires.0 c.before.before.before.before.before.before.requires.1 _ _ _ c.before.loop.invariant c.loop-test.false
+    wants_put _ _ _ _ _ c.before.before.before.before.before.before.requires.0 c.before.before.before.before.before.before.requires.1 _ _ _ c.before.loop.invariant c.loop-test.false
 
 pub put-wants-spec : {M : Type 1} → statement M
 put-wants-spec = tie.close (tie.spec invariant-loop decreases-loop loop-holds mul-reads-in shared-slice-read-reads-in mul-reads-in-2 shared-slice-read-reads-in-2 reads-in-requires slice-aggregate-put-pair-line add-put-pair-line put-pair-line-requires add-i loop-less loop-again same_length returns)

@@ -1,8 +1,8 @@
 use borrow.Author.Rules.{rules}
 use Prim.Native.Nat.{◌-◌}
 use native.Mathlib.Omega.{arith}
-use Rattle.sheet_reader.proofs.Rows.{Filling₃, filling-none₃, left-long₃, middle-long₃, right-long₃, filled₃, triple-filled}
-use Rattle.text_lines.proofs.Passing.{never-bad, triple-read, triple-unread}
+use Rattle.sheet_reader.proofs.Rows.{Filling₃, filling_none₃, left_long₃, middle_long₃, right_long₃, filled₃, triple_filled}
+use Rattle.text_lines.proofs.Passing.{never_bad, triple_read, triple_unread}
 use Rattle.sheet_reader.proofs.reader.fill_triple.Statement.{statement}
 use Rattle.sheet_reader.proofs.reader.fill_triple.Tie as tie
 
@@ -26,7 +26,7 @@ abbrev at-loop-from-known-told : tie.After-known-told invariant-loop decreases-l
 at-loop-from-known-told c = c.before.before.before.before.before
 
 loop-holds : tie.Need-loop-init invariant-loop decreases-loop
-loop-holds c = filling-none₃ _ _ _ _ _ _ _ c.before.before.before.before.before.requires
+loop-holds c = filling_none₃ _ _ _ _ _ _ _ c.before.before.before.before.before.requires
 
 triple-line-requires : tie.Need-triple-line-requires invariant-loop decreases-loop
 triple-line-requires c κs = search rules
@@ -40,22 +40,22 @@ enum_told c = search rules
 same_length : tie.Need-same-length invariant-loop decreases-loop
 same_length c =
     let al = at-loop c in
-    left-long₃ _ _ _ _ _ _ _ (at-start al).pre _ _ _ _ _ al.loop.inv
+    left_long₃ _ _ _ _ _ _ _ (at-start al).pre _ _ _ _ _ al.loop.inv
 
 same-length-2 : tie.Need-same-length-2 invariant-loop decreases-loop
 same-length-2 c =
     let al = at-loop c in
-    middle-long₃ _ _ _ _ _ _ _ (at-start al).pre _ _ _ _ _ al.loop.inv
+    middle_long₃ _ _ _ _ _ _ _ (at-start al).pre _ _ _ _ _ al.loop.inv
 
 same-length-3 : tie.Need-same-length-3 invariant-loop decreases-loop
 same-length-3 c =
     let al = at-loop c in
-    right-long₃ _ _ _ _ _ _ _ (at-start al).pre _ _ _ _ _ al.loop.inv
+    right_long₃ _ _ _ _ _ _ _ (at-start al).pre _ _ _ _ _ al.loop.inv
 
 returns : tie.Need-returns invariant-loop decreases-loop
 returns c =
     let al = at-loop c in
-    absurd (never-bad _ _ _ _ _ _ al.loop.inv.seen (search rules) (at-start al).pre.none (triple-unread _ _ _ _ c.before.before.triple-line.ensures c.enum_told.given.1))
+    absurd (never_bad _ _ _ _ _ _ al.loop.inv.seen (search rules) (at-start al).pre.none (triple_unread _ _ _ _ c.before.before.triple-line.ensures c.enum_told.given.1))
 
 mul-firsts : tie.Need-overflow-mul-firsts invariant-loop decreases-loop
 mul-firsts c = search rules
@@ -64,7 +64,7 @@ slice-write-firsts : tie.Need-slice-write-firsts invariant-loop decreases-loop
 slice-write-firsts c =
     let al = at-loop-from-known-told c in
     let s = at-start al in
-    let l = left-long₃ _ _ _ _ _ _ _ s.pre _ _ _ _ _ al.loop.inv in omega (arith, s.pre.room)
+    let l = left_long₃ _ _ _ _ _ _ _ s.pre _ _ _ _ _ al.loop.inv in omega (arith, s.pre.room)
 
 mul-seconds : tie.Need-overflow-mul-seconds invariant-loop decreases-loop
 mul-seconds c = search rules
@@ -73,7 +73,7 @@ slice-write-seconds : tie.Need-slice-write-seconds invariant-loop decreases-loop
 slice-write-seconds c =
     let al = at-loop-from-known-told c in
     let s = at-start al in
-    let l = middle-long₃ _ _ _ _ _ _ _ s.pre _ _ _ _ _ al.loop.inv in omega (arith, s.pre.space)
+    let l = middle_long₃ _ _ _ _ _ _ _ s.pre _ _ _ _ _ al.loop.inv in omega (arith, s.pre.space)
 
 mul-thirds : tie.Need-overflow-mul-thirds invariant-loop decreases-loop
 mul-thirds c = search rules
@@ -82,7 +82,7 @@ slice-write-thirds : tie.Need-slice-write-thirds invariant-loop decreases-loop
 slice-write-thirds c =
     let al = at-loop-from-known-told c in
     let s = at-start al in
-    let l = right-long₃ _ _ _ _ _ _ _ s.pre _ _ _ _ _ al.loop.inv in omega (arith, s.pre.more)
+    let l = right_long₃ _ _ _ _ _ _ _ s.pre _ _ _ _ _ al.loop.inv in omega (arith, s.pre.more)
 
 add-i : tie.Need-overflow-add-i invariant-loop decreases-loop
 add-i c = search rules
@@ -93,17 +93,17 @@ loop-less c = search rules
 loop-again : tie.Need-loop-preserved invariant-loop decreases-loop
 loop-again c =
     let al = at-loop-from-known-told c in
-    triple-filled _ _ _ _ _ _ _ (at-start al).pre _ _ _ _ _ al.loop.inv (search rules) _ _ _ _
-    (triple-read _ _ _ _ c.before.before.before.triple-line.ensures _ _ _ _ c.before.first.given.1)
+    triple_filled _ _ _ _ _ _ _ (at-start al).pre _ _ _ _ _ al.loop.inv (search rules) _ _ _ _
+    (triple_read _ _ _ _ c.before.before.before.triple-line.ensures _ _ _ _ c.before.first.given.1)
 
 same-length-4 : tie.Need-same-length-4 invariant-loop decreases-loop
-same-length-4 c = left-long₃ _ _ _ _ _ _ _ (at-start c.before).pre _ _ _ _ _ c.before.loop.invariant
+same-length-4 c = left_long₃ _ _ _ _ _ _ _ (at-start c.before).pre _ _ _ _ _ c.before.loop.invariant
 
 same-length-5 : tie.Need-same-length-5 invariant-loop decreases-loop
-same-length-5 c = middle-long₃ _ _ _ _ _ _ _ (at-start c.before).pre _ _ _ _ _ c.before.loop.invariant
+same-length-5 c = middle_long₃ _ _ _ _ _ _ _ (at-start c.before).pre _ _ _ _ _ c.before.loop.invariant
 
 same-length-6 : tie.Need-same-length-6 invariant-loop decreases-loop
-same-length-6 c = right-long₃ _ _ _ _ _ _ _ (at-start c.before).pre _ _ _ _ _ c.before.loop.invariant
+same-length-6 c = right_long₃ _ _ _ _ _ _ _ (at-start c.before).pre _ _ _ _ _ c.before.loop.invariant
 
 returns-2 : tie.Need-returns-2 invariant-loop decreases-loop
 returns-2 c = filled₃ _ _ _ _ _ _ _ (at-start c.before).pre _ _ _ _ _ c.before.loop.invariant c.loop-test.false

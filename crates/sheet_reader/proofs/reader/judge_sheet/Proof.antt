@@ -1,6 +1,6 @@
 -- `sheet_reader::reader::judge_sheet` meets its contract: 12, then the first five lines, then those below.
 -- Assumes nothing.
-use Rattle.sheet_reader.proofs.Order.{sheet-long, top_found, top-refuses, below-refuses, judged-good, top_read, top-failed, below-read, below-failed}
+use Rattle.sheet_reader.proofs.Order.{sheet_long, top_found, top_refuses, below_refuses, judged_good, top_read, top_failed, below_read, below_failed}
 use borrow.Author.Rules.{rules}
 use Rattle.sheet_reader.proofs.reader.judge_sheet.Statement.{statement}
 use Rattle.sheet_reader.proofs.reader.judge_sheet.Tie as tie
@@ -15,7 +15,7 @@ unread-requires : tie.Need-unread-requires
 unread-requires c κs = search rules
 
 returns : tie.Need-returns
-returns c = sheet-long _ _ _ c.before.before.before.refuse-if.ensures c.before.before.refused.ensures c.before.if1.true _ c.unread.ensures
+returns c = sheet_long _ _ _ c.before.before.before.refuse-if.ensures c.before.before.refused.ensures c.before.if1.true _ c.unread.ensures
 
 read-top-requires : tie.Need-read-top-requires
 read-top-requires c κs = search rules
@@ -51,25 +51,25 @@ returns-2 : tie.Need-returns-2
 returns-2 c =
     let c4 = c.before.before.before.before in
     let c8 = c4.before.before.before.before in
-    top-refuses _ _ _ c8.refuse-if.ensures c4.before.before.before.refused.ensures c4.before.before.if1.false _
-    (top-failed _ _ c4.before.read-top.ensures _ c.before.before.before.line.given.1) _ c.before.refuse-at.ensures _ c.unread2.ensures
+    top_refuses _ _ _ c8.refuse-if.ensures c4.before.before.before.refused.ensures c4.before.before.if1.false _
+    (top_failed _ _ c4.before.read-top.ensures _ c.before.before.before.line.given.1) _ c.before.refuse-at.ensures _ c.unread2.ensures
 
 returns-3 : tie.Need-returns-3
 returns-3 c =
     let c4 = c.before.before.before.before in
     let c8 = c4.before.before.before.before in
     let c12 = c8.before.before.before.before in
-    below-refuses _ _ _ c12.refuse-if.ensures c8.before.before.before.refused.ensures c8.before.before.if1.false _
+    below_refuses _ _ _ c12.refuse-if.ensures c8.before.before.before.refused.ensures c8.before.before.if1.false _
     (top_read _ _ c8.before.read-top.ensures _ c4.before.before.before.top.given.1) _
-    (below-failed _ _ c4.before.read_below.ensures _ c.before.before.before.line2.given.1) _ c.before.refuse-at2.ensures _ c.unread3.ensures
+    (below_failed _ _ c4.before.read_below.ensures _ c.before.before.before.line2.given.1) _ c.before.refuse-at2.ensures _ c.unread3.ensures
 
 returns-4 : tie.Need-returns-4
 returns-4 c =
     let c4 = c.before.before.before.before in
     let c8 = c4.before.before.before.before in
-    judged-good _ _ _ c8.before.before.refuse-if.ensures c8.before.refused.ensures c8.if1.false _
+    judged_good _ _ _ c8.before.before.refuse-if.ensures c8.before.refused.ensures c8.if1.false _
     (top_read _ _ c4.before.before.before.read-top.ensures _ c4.before.top.given.1) _ _
-    (below-read _ _ c.before.before.before.read_below.ensures _ _ c.before.wants.given.1)
+    (below_read _ _ c.before.before.before.read_below.ensures _ _ c.before.wants.given.1)
 
 pub judge-sheet-spec : {M : Type 1} → statement M
 judge-sheet-spec =

@@ -1,6 +1,6 @@
 -- `sheet_reader::reader::read_sheet` meets its contract: 12 and 11, then 19, then 8, then the rows and the answer.
 -- Assumes nothing.
-use Rattle.sheet_reader.proofs.Answers.{files-ready, sheet-read}
+use Rattle.sheet_reader.proofs.Answers.{files_ready, sheet_read}
 use borrow.Author.Rules.{rules}
 use Rattle.sheet_reader.proofs.reader.read_sheet.Statement.{statement}
 use Rattle.sheet_reader.proofs.reader.read_sheet.Tie as tie
@@ -43,7 +43,7 @@ fill-triple-requires c κs =
     let jf = f.before.before.before in
     let js = jf.before.before in
     let a = (at-start js).args in
-    files-ready _ _ js.judge-sheet.ensures a.starts.now a.lengths.now a.aggregates.now a.numbers.now a.counts.now _ _
+    files_ready _ _ js.judge-sheet.ensures a.starts.now a.lengths.now a.aggregates.now a.numbers.now a.counts.now _ _
     jf.judge-files.ensures f.before.before.judge-pair.ensures _ f.before.to_fill.ensures
 
 slice-aggregate-fill-pairs : tie.Need-slice-aggregate-fill-pairs
@@ -78,7 +78,7 @@ returns c =
     let jf = f.before.before.before in
     let js = jf.before.before in
     let a = (at-start js).args in
-    sheet-read _ _ js.judge-sheet.ensures a.starts.now a.lengths.now a.aggregates.now a.numbers.now a.counts.now _ _
+    sheet_read _ _ js.judge-sheet.ensures a.starts.now a.lengths.now a.aggregates.now a.numbers.now a.counts.now _ _
     jf.judge-files.ensures f.before.before.judge-pair.ensures _ f.before.to_fill.ensures _ f.to-fill2.ensures
     _ _ _ _ _ _ c.reading-of.ensures ft.fill-triple.ensures fp.fill-pairs.ensures
 

@@ -1,6 +1,6 @@
 -- `sheet_reader::reader::read_top` meets its contract: each line in turn, the first that is not as described being the answer.
 -- Assumes nothing.
-use Rattle.sheet_reader.proofs.Order.{tape_bad, head-bad, turn-bad, rule_bad, files-bad, top-good}
+use Rattle.sheet_reader.proofs.Order.{tape_bad, head_bad, turn_bad, rule_bad, files_bad, top_good}
 use borrow.Author.Rules.{rules}
 use Rattle.sheet_reader.proofs.reader.read_top.Statement.{statement}
 use Rattle.sheet_reader.proofs.reader.read_top.Tie as tie
@@ -30,7 +30,7 @@ enum-told-2 : tie.Need-enum-told-2
 enum-told-2 c = search rules
 
 returns-2 : tie.Need-returns-2
-returns-2 c = head-bad _ _ c.before.before.before.before.before.before.before.tape-line.ensures _ _ c.before.before.before.before.before.end.given.1 _ c.before.before.number-line.ensures c.enum-told2.given.1
+returns-2 c = head_bad _ _ c.before.before.before.before.before.before.before.tape-line.ensures _ _ c.before.before.before.before.before.end.given.1 _ c.before.before.number-line.ensures c.enum-told2.given.1
 
 turn-line-requires : tie.Need-turn-line-requires
 turn-line-requires c κs = search rules
@@ -45,7 +45,7 @@ returns-3 : tie.Need-returns-3
 returns-3 c =
     let c4 = c.before.before.before.before in
     let c8 = c4.before.before.before.before in
-    turn-bad _ _ c8.before.before.before.tape-line.ensures _ _ c8.before.end.given.1 _ c4.before.before.number-line.ensures _ _ c4.head.given.1 _ c.before.before.turn_line.ensures c.enum-told3.given.1
+    turn_bad _ _ c8.before.before.before.tape-line.ensures _ _ c8.before.end.given.1 _ c4.before.before.number-line.ensures _ _ c4.head.given.1 _ c.before.before.turn_line.ensures c.enum-told3.given.1
 
 rule-line-requires : tie.Need-rule-line-requires
 rule-line-requires c κs = search rules
@@ -83,7 +83,7 @@ returns-5 c =
     let c12 = c8.before.before.before.before in
     let c16 = c12.before.before.before.before in
     let c20 = c16.before.before.before.before in
-    files-bad _ _ c20.tape-line.ensures _ _ c16.before.before.end.given.1 _ c12.before.before.before.number-line.ensures _ _ c12.before.head.given.1 _ c8.before.before.before.turn_line.ensures _ _ c8.before.turn.given.1
+    files_bad _ _ c20.tape-line.ensures _ _ c16.before.before.end.given.1 _ c12.before.before.before.number-line.ensures _ _ c12.before.head.given.1 _ c8.before.before.before.turn_line.ensures _ _ c8.before.turn.given.1
     _ c4.before.before.before.rule_line.ensures _ _ c4.before.sweep.given.1 _ c.before.before.count-line.ensures c.enum-told5.given.1
 
 returns-6 : tie.Need-returns-6
@@ -93,7 +93,7 @@ returns-6 c =
     let c12 = c8.before.before.before.before in
     let c16 = c12.before.before.before.before in
     let c20 = c16.before.before.before.before in
-    top-good _ _ c20.before.tape-line.ensures _ _ c16.before.before.before.end.given.1 _ c16.number-line.ensures _ _ c12.before.before.head.given.1 _ c12.turn_line.ensures _ _ c8.before.before.turn.given.1
+    top_good _ _ c20.before.tape-line.ensures _ _ c16.before.before.before.end.given.1 _ c16.number-line.ensures _ _ c12.before.before.head.given.1 _ c12.turn_line.ensures _ _ c8.before.before.turn.given.1
     _ c8.rule_line.ensures _ _ c4.before.before.sweep.given.1 _ c.before.before.before.count-line.ensures _ _ c.before.files.given.1
 
 pub read-top-spec : {M : Type 1} → statement M

@@ -3,8 +3,8 @@
 use native.Mathlib.Omega.{arith}
 use Rattle.text_lines.specs.Lines.{is_pair_line}
 use Rattle.sheet_reader.specs.Lines.{want_key}
-use Rattle.text_lines.proofs.Passing.{lines-ended, lines-failed}
-use Rattle.sheet_reader.proofs.Order.{wants-bad, wants_few, want-bad, text_behind, below-good}
+use Rattle.text_lines.proofs.Passing.{lines_ended, lines_failed}
+use Rattle.sheet_reader.proofs.Order.{wants_bad, wants_few, want_bad, text_behind, below_good}
 use borrow.Author.Rules.{rules}
 use Rattle.sheet_reader.proofs.reader.read_wants.Statement.{statement}
 use Rattle.sheet_reader.proofs.reader.read_wants.Tie as tie
@@ -27,7 +27,7 @@ add-t14 c = search rules
 returns : tie.Need-returns
 returns c =
     let cl = c.before.before in
-    wants-bad _ _ _ cl.before.before.before.requires _ cl.count-line.ensures c.enum_told.given.1
+    wants_bad _ _ _ cl.before.before.before.requires _ cl.count-line.ensures c.enum_told.given.1
 
 slice-aggregate-pair-lines : tie.Need-slice-aggregate-pair-lines
 slice-aggregate-pair-lines c = search rules
@@ -48,7 +48,7 @@ add-t20 c =
     let cl = w.before.before in
     let s = cl.before.before.before in
     let few = wants_few _ _ _ s.requires _ cl.count-line.ensures _ _ w.wants.given.1 in
-    let bad = lines-failed (is_pair_line want_key) _ _ _ _ pl.pair-lines.ensures _ c.before.line.given.1 in
+    let bad = lines_failed (is_pair_line want_key) _ _ _ _ pl.pair-lines.ensures _ c.before.line.given.1 in
     omega (arith, s.requires.few, bad.most)
 
 enum-known-end : tie.Need-enum-known-end
@@ -72,8 +72,8 @@ returns-2 : tie.Need-returns-2
 returns-2 c =
     let c4 = c.before.before.before.before in
     let c8 = c4.before.before.before.before in
-    want-bad _ _ _ c8.before.before.before.requires _ c8.count-line.ensures _ _ c4.before.before.wants.given.1 _
-    (lines-failed (is_pair_line want_key) _ _ _ _ c.before.before.before.pair-lines.ensures _ c.before.line.given.1)
+    want_bad _ _ _ c8.before.before.before.requires _ c8.count-line.ensures _ _ c4.before.before.wants.given.1 _
+    (lines_failed (is_pair_line want_key) _ _ _ _ c.before.before.before.pair-lines.ensures _ c.before.line.given.1)
 
 returns-3 : tie.Need-returns-3
 returns-3 c =
@@ -81,15 +81,15 @@ returns-3 c =
     let c8 = c4.before.before.before.before in
     let c12 = c8.before.before.before.before in
     text_behind _ _ _ c12.requires _ c8.before.count-line.ensures _ _ c4.before.before.before.wants.given.1 _
-    (lines-ended (is_pair_line want_key) _ _ _ _ c4.pair-lines.ensures _ c.before.before.end.given.1) c.if1.true
+    (lines_ended (is_pair_line want_key) _ _ _ _ c4.pair-lines.ensures _ c.before.before.end.given.1) c.if1.true
 
 returns-4 : tie.Need-returns-4
 returns-4 c =
     let c4 = c.before.before.before.before in
     let c8 = c4.before.before.before.before in
     let c12 = c8.before.before.before.before in
-    below-good _ _ _ c12.requires _ c8.before.count-line.ensures _ _ c4.before.before.before.wants.given.1 _
-    (lines-ended (is_pair_line want_key) _ _ _ _ c4.pair-lines.ensures _ c.before.before.end.given.1) c.if1.false
+    below_good _ _ _ c12.requires _ c8.before.count-line.ensures _ _ c4.before.before.before.wants.given.1 _
+    (lines_ended (is_pair_line want_key) _ _ _ _ c4.pair-lines.ensures _ c.before.before.end.given.1) c.if1.false
 
 pub read-wants-spec : {M : Type 1} → statement M
 read-wants-spec =

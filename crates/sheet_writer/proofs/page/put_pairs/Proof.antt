@@ -5,7 +5,7 @@ use Prim.Native.Nat.{◌-◌}
 use native.Mathlib.Omega.{arith}
 use lib.ListN.{length, drop}
 use Rattle.text_pages.specs.Printing.{pair_lines}
-use Rattle.text_pages.proofs.Pages.{LinesPut, lines_put_none, line_put, lines-put, pairs-left, pairs-over}
+use Rattle.text_pages.proofs.Pages.{LinesPut, lines_put_none, line_put, lines_put, pairs_left, pairs_over}
 use Rattle.sheet_writer.proofs.page.put_pairs.Statement.{statement}
 use Rattle.sheet_writer.proofs.page.put_pairs.Tie as tie
 
@@ -44,7 +44,7 @@ loop-again c =
     let c4 = c.before.before.before.before in
     let c8 = c4.before.before.before.before in
     let c12 = c8.before.before.before.before in
-    line_put _ _ _ _ _ c12.requires.1.1 _ _ _ _ c4.before.before.before.loop.invariant (search rules) _ _ (pairs-left _ _ _ c12.requires.1.0 _ c4.before.before.loop-test.true) _ (omega (arith, c12.requires.0)) _ _ c.before.before.put-pair-line.ensures
+    line_put _ _ _ _ _ c12.requires.1.1 _ _ _ _ c4.before.before.before.loop.invariant (search rules) _ _ (pairs_left _ _ _ c12.requires.1.0 _ c4.before.before.loop-test.true) _ (omega (arith, c12.requires.0)) _ _ c.before.before.put-pair-line.ensures
 
 same_length : tie.Need-same-length invariant-loop decreases-loop
 same_length c = c.before.loop.invariant.long
@@ -52,7 +52,7 @@ same_length c = c.before.loop.invariant.long
 returns : tie.Need-returns invariant-loop decreases-loop
 returns c =
     let c6 = c.before.before.before.before.before.before in
-    lines-put _ _ _ _ _ c6.requires.1.1 _ _ _ _ c.before.loop.invariant c.loop-test.false (pairs-over _ _ _ c6.requires.1.0 _ c.loop-test.false)
+    lines_put _ _ _ _ _ c6.requires.1.1 _ _ _ _ c.before.loop.invariant c.loop-test.false (pairs_over _ _ _ c6.requires.1.0 _ c.loop-test.false)
 
 pub put-pairs-spec : {M : Type 1} → statement M
 put-pairs-spec =

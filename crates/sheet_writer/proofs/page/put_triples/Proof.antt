@@ -5,7 +5,7 @@ use Prim.Native.Nat.{◌-◌}
 use native.Mathlib.Omega.{arith}
 use lib.ListN.{length, drop}
 use Rattle.text_pages.specs.Printing.{triple_lines}
-use Rattle.text_pages.proofs.Pages.{LinesPut, lines_put_none, line_put, lines-put, triples-left, triples-over}
+use Rattle.text_pages.proofs.Pages.{LinesPut, lines_put_none, line_put, lines_put, triples_left, triples_over}
 use Rattle.sheet_writer.proofs.page.put_triples.Statement.{statement}
 use Rattle.sheet_writer.proofs.page.put_triples.Tie as tie
 
@@ -49,7 +49,7 @@ loop-again : tie.Need-loop-preserved invariant-loop decreases-loop
 loop-again c =
     let c7 = c.before.before.before.before.before.before.before in
     let c14 = c7.before.before.before.before.before.before.before in
-    line_put _ _ _ _ _ c14.requires.1.1.1 _ _ _ _ c7.before.loop.invariant (search rules) _ _ (triples-left _ _ _ c14.requires.1.0 _ _ c14.requires.1.1.0 c7.loop-test.true) _ (omega (arith, c14.requires.0)) _ _ c.before.before.put-triple-line.ensures
+    line_put _ _ _ _ _ c14.requires.1.1.1 _ _ _ _ c7.before.loop.invariant (search rules) _ _ (triples_left _ _ _ c14.requires.1.0 _ _ c14.requires.1.1.0 c7.loop-test.true) _ (omega (arith, c14.requires.0)) _ _ c.before.before.put-triple-line.ensures
 
 same_length : tie.Need-same-length invariant-loop decreases-loop
 same_length c = c.before.loop.invariant.long
@@ -57,7 +57,7 @@ same_length c = c.before.loop.invariant.long
 returns : tie.Need-returns invariant-loop decreases-loop
 returns c =
     let c7 = c.before.before.before.before.before.before.before in
-    lines-put _ _ _ _ _ c7.requires.1.1.1 _ _ _ _ c.before.loop.invariant c.loop-test.false (triples-over _ _ _ c7.requires.1.0 _ _ c7.requires.1.1.0 c.loop-test.false)
+    lines_put _ _ _ _ _ c7.requires.1.1.1 _ _ _ _ c.before.loop.invariant c.loop-test.false (triples_over _ _ _ c7.requires.1.0 _ _ c7.requires.1.1.0 c.loop-test.false)
 
 pub put-triples-spec : {M : Type 1} → statement M
 put-triples-spec =

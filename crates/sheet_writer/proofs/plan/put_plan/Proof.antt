@@ -3,7 +3,7 @@
 use mathlib.Core.Path.{◌∙◌}
 use native.Mathlib.Omega.{arith}
 use Rattle.sheet_writer.specs.PlanSheet.{plan_lines}
-use Rattle.text_pages.proofs.Pages.{wrote-both, wrote-within}
+use Rattle.text_pages.proofs.Pages.{wrote_both, wrote_within}
 use borrow.Author.Rules.{rules}
 use Rattle.sheet_writer.proofs.plan.put_plan.Statement.{statement}
 use Rattle.sheet_writer.proofs.plan.put_plan.Tie as tie
@@ -41,8 +41,8 @@ returns c =
     let c7 = pt.before.before.before.before.before in
     let c12 = c7.before.before.before.before.before in
     let c21 = at-start c12 in
-    let two = wrote-both c12.put-plan-top.ensures c7.put-pairs.ensures in
-    wrote-within (wrote-both two pt.put-triples.ensures) _ (omega (arith, c21.pre.few, c21.pre.wants))
+    let two = wrote_both c12.put-plan-top.ensures c7.put-pairs.ensures in
+    wrote_within (wrote_both two pt.put-triples.ensures) _ (omega (arith, c21.pre.few, c21.pre.wants))
 
 pub put-plan-spec : {M : Type 1} → statement M
 put-plan-spec =

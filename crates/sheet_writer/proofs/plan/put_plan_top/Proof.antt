@@ -3,7 +3,7 @@
 use mathlib.Core.Path.{◌∙◌}
 use native.Mathlib.Omega.{arith}
 use Rattle.sheet_writer.specs.PlanSheet.{plan_top}
-use Rattle.text_pages.proofs.Pages.{wrote_on, wrote-within}
+use Rattle.text_pages.proofs.Pages.{wrote_on, wrote_within}
 use borrow.Author.Rules.{rules}
 use Rattle.sheet_writer.proofs.plan.put_plan_top.Statement.{statement}
 use Rattle.sheet_writer.proofs.plan.put_plan_top.Tie as tie
@@ -72,7 +72,7 @@ returns c =
     let three = wrote_on two (omega arith) c16.before.put-number-line2.ensures in
     let four = wrote_on three (omega arith) c12.put-number-line3.ensures in
     let five = wrote_on four (omega arith) c4.before.before.before.put-number-line4.ensures in
-    wrote-within (wrote_on five (omega arith) c.before.before.put-number-line5.ensures) _ (omega arith)
+    wrote_within (wrote_on five (omega arith) c.before.before.put-number-line5.ensures) _ (omega arith)
 
 pub put-plan-top-spec : {M : Type 1} → statement M
 put-plan-top-spec =

@@ -4,7 +4,7 @@ use mathlib.Core.Path.{sym, ◌∙◌}
 use native.Mathlib.Omega.{arith}
 use Rattle.runs.specs.Run.{run_of}
 use Rattle.sheet_writer.proofs.Sheets.{refused_handed, part_length, page_handed}
-use Rattle.sheet_writer.proofs.Plans.{plan-refused, plan-good, plan-list-refused, plan-last, times-length, legs-length, plan-fits, plan-wrote}
+use Rattle.sheet_writer.proofs.Plans.{plan_refused, plan_good, plan_list_refused, plan_last, times_length, legs_length, plan_fits, plan_wrote}
 use borrow.Author.Rules.{rules}
 use Rattle.runs.proofs.Accepted.{counted_exact}
 use Rattle.sheet_writer.proofs.plan.write_plan_any.Statement.{statement}
@@ -29,7 +29,7 @@ returns c =
     let c12 = c8.before.before.before.before in
     let a = c12.before.before.args in
     let run = run_of a.starts.now a.lengths.now a.aggregates.now a.numbers.now a.counts.now a.head a.turn in
-    refused_handed _ _ _ _ _ _ (plan-refused a.name.now run a.froms.now a.tos.now a.out.now _ _
+    refused_handed _ _ _ _ _ _ (plan_refused a.name.now run a.froms.now a.tos.now a.out.now _ _
     c4.judge-any.ensures c.before.before.before.judge-name.ensures _ c.before.before.refused.ensures c.before.if1.true) (sym
     c.before.before.refused.ensures ∙ c.before.if1.true) c.answer-to.ensures
 
@@ -66,7 +66,7 @@ returns-2 c =
     let j = named.before.before.before in
     let a = (at-start j).args in
     let run = run_of a.starts.now a.lengths.now a.aggregates.now a.numbers.now a.counts.now a.head a.turn in
-    refused_handed _ _ _ _ _ _ (plan-list-refused a.name.now run a.froms.now a.tos.now a.out.now _ _
+    refused_handed _ _ _ _ _ _ (plan_list_refused a.name.now run a.froms.now a.tos.now a.out.now _ _
     j.judge-any.ensures named.before.before.judge-name.ensures _ named.before.refused.ensures named.if1.false
     _ _ (search rules) (search rules) price.price-any.result price.price-any.ensures.0 _ r2.refused2.ensures c.before.if2.true) (sym r2.refused2.ensures
     ∙ c.before.if2.true) c.answer-to2.ensures
@@ -83,7 +83,7 @@ array-share-prefix-times c =
     let named = price.before.before.before in
     let a = named.before.before.before.before.before.before.before.before.before.before.before.before.before.args in
     let run = run_of a.starts.now a.lengths.now a.aggregates.now a.numbers.now a.counts.now a.head a.turn in
-    let few = (plan-good a.name.now run a.froms.now a.tos.now a.out.now _ _
+    let few = (plan_good a.name.now run a.froms.now a.tos.now a.out.now _ _
     named.before.before.before.judge-any.ensures named.before.before.judge-name.ensures _ named.before.refused.ensures named.if1.false).run.wants.few in
     omega (arith, few)
 
@@ -95,7 +95,7 @@ slice-aggregate-put-plan-2 c =
     let j = named.before.before.before in
     let a = (at-start j).args in
     let run = run_of a.starts.now a.lengths.now a.aggregates.now a.numbers.now a.counts.now a.head a.turn in
-    times-length a.name.now run a.froms.now a.tos.now a.out.now _ _
+    times_length a.name.now run a.froms.now a.tos.now a.out.now _ _
     j.judge-any.ensures named.before.before.judge-name.ensures _ named.before.refused.ensures named.if1.left
     _ _ (search rules) (search rules) price.price-any.result price.price-any.ensures.0 _ e2.before.refused2.ensures e2.if2.false _ _ price.price-any.ensures.1
 
@@ -105,7 +105,7 @@ array-share-prefix-legs c =
     let named = price.before.before.before in
     let a = named.before.before.before.before.before.before.before.before.before.before.before.before.before.args in
     let run = run_of a.starts.now a.lengths.now a.aggregates.now a.numbers.now a.counts.now a.head a.turn in
-    let few = (plan-good a.name.now run a.froms.now a.tos.now a.out.now _ _
+    let few = (plan_good a.name.now run a.froms.now a.tos.now a.out.now _ _
     named.before.before.before.judge-any.ensures named.before.before.judge-name.ensures _ named.before.refused.ensures named.if1.false).run.wants.few in
     omega (arith, few)
 
@@ -117,7 +117,7 @@ slice-aggregate-put-plan-3 c =
     let j = named.before.before.before in
     let a = (at-start j).args in
     let run = run_of a.starts.now a.lengths.now a.aggregates.now a.numbers.now a.counts.now a.head a.turn in
-    legs-length a.name.now run a.froms.now a.tos.now a.out.now _ _
+    legs_length a.name.now run a.froms.now a.tos.now a.out.now _ _
     j.judge-any.ensures named.before.before.judge-name.ensures _ named.before.refused.ensures named.if1.left
     _ _ (search rules) (search rules) price.price-any.result price.price-any.ensures.0 _ e2.before.refused2.ensures e2.if2.left _ _ price.price-any.ensures.1
 
@@ -129,7 +129,7 @@ put-plan-requires c κs =
     let j = named.before.before.before in
     let a = (at-start j).args in
     let run = run_of a.starts.now a.lengths.now a.aggregates.now a.numbers.now a.counts.now a.head a.turn in
-    plan-fits a.name.now run a.froms.now a.tos.now a.out.now _ _
+    plan_fits a.name.now run a.froms.now a.tos.now a.out.now _ _
     j.judge-any.ensures named.before.before.judge-name.ensures _ named.before.refused.ensures named.if1.left
     _ _ (search rules) (search rules) price.price-any.result price.price-any.ensures.0 _ e2.before.refused2.ensures e2.if2.left _ _ price.price-any.ensures.1 _ (search rules)
 
@@ -156,13 +156,13 @@ returns-3 c =
     let a = (at-start jn.before).args in
     let run = run_of a.starts.now a.lengths.now a.aggregates.now a.numbers.now a.counts.now a.head a.turn in
     let reads = counted_exact a.counts.now
-    (plan-good a.name.now run a.froms.now a.tos.now a.out.now _ _ jn.before.judge-any.ensures jn.judge-name.ensures _ named.before.refused.ensures
+    (plan_good a.name.now run a.froms.now a.tos.now a.out.now _ _ jn.before.judge-any.ensures jn.judge-name.ensures _ named.before.refused.ensures
     named.if1.left).run.wants.reads in
-    let wrote = plan-wrote a.name.now run a.froms.now a.tos.now a.out.now _ _
+    let wrote = plan_wrote a.name.now run a.froms.now a.tos.now a.out.now _ _
     jn.before.judge-any.ensures jn.judge-name.ensures _ named.before.refused.ensures named.if1.left
     _ _ (search rules) (search rules) price.price-any.result price.price-any.ensures.0 _ e2.before.refused2.ensures e2.if2.left _ _ price.price-any.ensures.1 _
     (pp.before.before.before.count-reads.ensures ∙ reads) _ _ _ pp.put-plan.ensures in
-    page_handed _ _ _ _ _ wrote _ _ (plan-last a.name.now run a.froms.now a.tos.now a.out.now _ _
+    page_handed _ _ _ _ _ wrote _ _ (plan_last a.name.now run a.froms.now a.tos.now a.out.now _ _
     jn.before.judge-any.ensures jn.judge-name.ensures _ named.before.refused.ensures named.if1.left
     _ _ (search rules) (search rules) price.price-any.result price.price-any.ensures.0 _ e2.before.refused2.ensures e2.if2.left) _ _ ho.hand-out.ensures
 

@@ -3,7 +3,7 @@
 use mathlib.Core.Path.{◌∙◌}
 use native.Mathlib.Omega.{arith}
 use Rattle.sheet_writer.specs.Writing.{sheet_text}
-use Rattle.text_pages.proofs.Pages.{wrote-both, wrote-long, wrote_on, wrote-within}
+use Rattle.text_pages.proofs.Pages.{wrote_both, wrote_long, wrote_on, wrote_within}
 use borrow.Author.Rules.{rules}
 use Rattle.sheet_writer.proofs.writer.put_sheet.Statement.{statement}
 use Rattle.sheet_writer.proofs.writer.put_sheet.Tie as tie
@@ -36,8 +36,8 @@ put-pairs-requires c κs =
     let files = wants.before.before.before.before.before in
     let top = files.before.before.before.before.before in
     let z = (at-start top).requires in
-    let w = wrote_on (wrote-both top.put-top.ensures files.put-triples.ensures) (omega arith) wants.put-number-line.ensures in
-    let long = wrote-long w (omega arith) in
+    let w = wrote_on (wrote_both top.put-top.ensures files.put-triples.ensures) (omega arith) wants.put-number-line.ensures in
+    let long = wrote_long w (omega arith) in
     (omega arith, (z.pairs, omega (arith, w.within, long)))
 
 same_length : tie.Need-same-length
@@ -58,9 +58,9 @@ returns c =
     let c20 = c16.before.before.before.before in
     let c24 = c20.before.before.before.before in
     let z = c24.before.before.requires in
-    let two = wrote-both c16.before.put-top.ensures c12.put-triples.ensures in
+    let two = wrote_both c16.before.put-top.ensures c12.put-triples.ensures in
     let three = wrote_on two (omega arith) c4.before.before.before.put-number-line.ensures in
-    wrote-within (wrote-both three c.before.before.put-pairs.ensures) _ (omega arith)
+    wrote_within (wrote_both three c.before.before.put-pairs.ensures) _ (omega arith)
 
 pub put-sheet-spec : {M : Type 1} → statement M
 put-sheet-spec =

@@ -3,7 +3,7 @@
 use mathlib.Core.Path.{◌∙◌}
 use native.Mathlib.Omega.{arith}
 use Rattle.sheet_writer.specs.Writing.{top_text}
-use Rattle.text_pages.proofs.Pages.{wrote_on, wrote-within}
+use Rattle.text_pages.proofs.Pages.{wrote_on, wrote_within}
 use borrow.Author.Rules.{rules}
 use Rattle.sheet_writer.proofs.writer.put_top.Statement.{statement}
 use Rattle.sheet_writer.proofs.writer.put_top.Tie as tie
@@ -65,7 +65,7 @@ returns c =
     let two = wrote_on one (omega arith) c16.before.before.put-number-line.ensures in
     let three = wrote_on two (omega arith) c12.before.put-number-line2.ensures in
     let four = wrote_on three (omega arith) c4.before.before.before.put-line2.ensures in
-    wrote-within (wrote_on four (omega arith) c.before.before.put-number-line3.ensures) _ (omega arith)
+    wrote_within (wrote_on four (omega arith) c.before.before.put-number-line3.ensures) _ (omega arith)
 
 pub put-top-spec : {M : Type 1} → statement M
 put-top-spec =

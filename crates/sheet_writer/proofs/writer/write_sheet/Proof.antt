@@ -2,7 +2,7 @@
 -- Assumes nothing.
 use mathlib.Core.Path.{sym, ◌∙◌}
 use Rattle.runs.specs.Run.{run_of}
-use Rattle.sheet_writer.proofs.Sheets.{refused_handed, write-refused, sheet-fits, sheet-last, part_length, page_handed}
+use Rattle.sheet_writer.proofs.Sheets.{refused_handed, write_refused, sheet_fits, sheet_last, part_length, page_handed}
 use borrow.Author.Rules.{rules}
 use Rattle.sheet_writer.proofs.writer.write_sheet.Statement.{statement}
 use Rattle.sheet_writer.proofs.writer.write_sheet.Tie as tie
@@ -25,7 +25,7 @@ returns c =
     let c8 = c4.before.before.before.before in
     let a = c8.before.before.before.before.args in
     let run = run_of a.starts.now a.lengths.now a.aggregates.now a.numbers.now a.counts.now a.head a.turn in
-    refused_handed _ _ _ _ _ _ (write-refused a.name.now run a.out.now _ _ c4.judge.ensures c.before.before.before.judge-name.ensures _ c.before.before.refused.ensures c.before.if1.true) (sym c.before.before.refused.ensures ∙ c.before.if1.true) c.answer-to.ensures
+    refused_handed _ _ _ _ _ _ (write_refused a.name.now run a.out.now _ _ c4.judge.ensures c.before.before.before.judge-name.ensures _ c.before.before.refused.ensures c.before.if1.true) (sym c.before.before.refused.ensures ∙ c.before.if1.true) c.answer-to.ensures
 
 slice-aggregate-put-sheet : tie.Need-slice-aggregate-put-sheet
 slice-aggregate-put-sheet c = search rules
@@ -36,7 +36,7 @@ put-sheet-requires c κs =
     let c8 = c4.before.before.before.before in
     let a = c8.before.before.before.before.args in
     let run = run_of a.starts.now a.lengths.now a.aggregates.now a.numbers.now a.counts.now a.head a.turn in
-    sheet-fits a.name.now run a.out.now _ _ c4.judge.ensures c.before.before.before.judge-name.ensures _ c.before.before.refused.ensures c.before.if1.false _ (search rules)
+    sheet_fits a.name.now run a.out.now _ _ c4.judge.ensures c.before.before.before.judge-name.ensures _ c.before.before.refused.ensures c.before.if1.false _ (search rules)
 
 array-share-prefix-page : tie.Need-array-share-prefix-page
 array-share-prefix-page c = search rules
@@ -58,7 +58,7 @@ returns-2 c =
     let c16 = c12.before.before.before.before in
     let a = c16.before.before.before.args in
     let run = run_of a.starts.now a.lengths.now a.aggregates.now a.numbers.now a.counts.now a.head a.turn in
-    page_handed _ _ _ _ _ c4.before.before.put-sheet.ensures _ _ (sheet-last a.name.now run a.out.now _ _ c8.before.before.before.judge.ensures c8.before.before.judge-name.ensures _ c8.before.refused.ensures c8.if1.false) _ _ c.before.before.hand-out.ensures
+    page_handed _ _ _ _ _ c4.before.before.put-sheet.ensures _ _ (sheet_last a.name.now run a.out.now _ _ c8.before.before.before.judge.ensures c8.before.before.judge-name.ensures _ c8.before.refused.ensures c8.if1.false) _ _ c.before.before.hand-out.ensures
 
 pub write-sheet-spec : {M : Type 1} → statement M
 write-sheet-spec =

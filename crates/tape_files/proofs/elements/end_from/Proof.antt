@@ -3,7 +3,7 @@
 use Rattle.tape_markup.proofs.Counts.{few_tokens}
 use Rattle.tape_markup.proofs.Meets.{step_told, begins_fewer, unread, unread_token, unread_past}
 use Rattle.tape_markup.proofs.Texts.{text_less}
-use Rattle.tape_files.proofs.Frames.{frames_none, frames_broken, Leaving, leaving_none, leave-over, leave-text, leave-byte, leave-past, leave-start, leave-finish, leave-last}
+use Rattle.tape_files.proofs.Frames.{frames_none, frames_broken, Leaving, leaving_none, leave_over, leave_text, leave_byte, leave_past, leave_start, leave_finish, leave_last}
 use borrow.Author.Rules.{rules}
 use Rattle.tape_files.proofs.elements.end_from.Statement.{statement}
 use Rattle.tape_files.proofs.elements.end_from.Tie as tie
@@ -25,7 +25,7 @@ enum_told c = search rules
 
 returns : tie.Need-returns invariant-loop decreases-loop
 returns c =
-    leave-over _ _ _ _ c.before.before.before.loop.invariant
+    leave_over _ _ _ _ c.before.before.before.loop.invariant
     (frames_none _ _ (rw c.enum_told.given.1 at (step_told _ _ _ c.before.before.before.loop.invariant.within c.before.before.step_from.ensures)))
 
 enum-told-2 : tie.Need-enum-told-2 invariant-loop decreases-loop
@@ -33,7 +33,7 @@ enum-told-2 c = search rules
 
 returns-2 : tie.Need-returns-2 invariant-loop decreases-loop
 returns-2 c =
-    leave-over _ _ _ _ c.before.before.before.loop.invariant
+    leave_over _ _ _ _ c.before.before.before.loop.invariant
     (frames_broken _ _ (rw c.enum-told2.given.1 at (step_told _ _ _ c.before.before.before.loop.invariant.within c.before.before.step_from.ensures)))
 
 enum-known-step : tie.Need-enum-known-step invariant-loop decreases-loop
@@ -50,7 +50,7 @@ loop-less c =
 loop-again : tie.Need-loop-preserved invariant-loop decreases-loop
 loop-again c =
     let m = rw c.before.before.step.given.1 at (step_told _ _ _ c.before.before.before.before.before.loop.invariant.within c.before.before.before.before.step_from.ensures) in
-    leave-text _ _ _ _ (leave-byte _ _ _ _ c.before.before.before.before.before.loop.invariant _ _ m) _ c.behind-text.ensures
+    leave_text _ _ _ _ (leave_byte _ _ _ _ c.before.before.before.before.before.loop.invariant _ _ m) _ c.behind-text.ensures
 
 enum-known-step-2 : tie.Need-enum-known-step-2 invariant-loop decreases-loop
 enum-known-step-2 c = search rules
@@ -74,7 +74,7 @@ loop-less-2 c =
 loop-again-2 : tie.Need-loop-preserved-2 invariant-loop decreases-loop
 loop-again-2 c =
     let m = rw c.before.before.step2.given.1 at (step_told _ _ _ c.before.before.before.before.before.loop.invariant.within c.before.before.before.before.step_from.ensures) in
-    leave-text _ _ _ _ (leave-start _ _ _ _ c.before.before.before.before.before.loop.invariant _ _ m.0) _ c.behind-text2.ensures
+    leave_text _ _ _ _ (leave_start _ _ _ _ c.before.before.before.before.before.loop.invariant _ _ m.0) _ c.behind-text2.ensures
 
 enum-known-step-3 : tie.Need-enum-known-step-3 invariant-loop decreases-loop
 enum-known-step-3 c = search rules
@@ -82,7 +82,7 @@ enum-known-step-3 c = search rules
 returns-3 : tie.Need-returns-3 invariant-loop decreases-loop
 returns-3 c =
     let m = rw c.before.before.step3.given.1 at (step_told _ _ _ c.before.before.before.before.before.loop.invariant.within c.before.before.before.before.step_from.ensures) in
-    leave-last _ _ _ _ c.before.before.before.before.before.loop.invariant _ _ m.0 c.if1.true
+    leave_last _ _ _ _ c.before.before.before.before.before.loop.invariant _ _ m.0 c.if1.true
 
 sub-depth : tie.Need-overflow-sub-depth invariant-loop decreases-loop
 sub-depth c = search rules
@@ -98,7 +98,7 @@ loop-less-3 c =
 loop-again-3 : tie.Need-loop-preserved-3 invariant-loop decreases-loop
 loop-again-3 c =
     let m = rw c.before.before.before.step3.given.1 at (step_told _ _ _ c.before.before.before.before.before.before.loop.invariant.within c.before.before.before.before.before.step_from.ensures) in
-    leave-text _ _ _ _ (leave-finish _ _ _ _ c.before.before.before.before.before.before.loop.invariant _ _ m.0 c.before.if1.false) _ c.behind-text3.ensures
+    leave_text _ _ _ _ (leave_finish _ _ _ _ c.before.before.before.before.before.before.loop.invariant _ _ m.0 c.before.if1.false) _ c.behind-text3.ensures
 
 enum-known-step-4 : tie.Need-enum-known-step-4 invariant-loop decreases-loop
 enum-known-step-4 c = search rules
@@ -114,7 +114,7 @@ loop-less-4 c =
 loop-again-4 : tie.Need-loop-preserved-4 invariant-loop decreases-loop
 loop-again-4 c =
     let m = rw c.before.before.step4.given.1 at (step_told _ _ _ c.before.before.before.before.before.loop.invariant.within c.before.before.before.before.step_from.ensures) in
-    leave-text _ _ _ _ (leave-past _ _ _ _ c.before.before.before.before.before.loop.invariant _ m) _ c.behind-text4.ensures
+    leave_text _ _ _ _ (leave_past _ _ _ _ c.before.before.before.before.before.loop.invariant _ m) _ c.behind-text4.ensures
 
 pub end-from-spec : {M : Type 1} → statement M
 end-from-spec =

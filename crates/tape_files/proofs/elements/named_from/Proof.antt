@@ -4,7 +4,7 @@ use borrow.Author.Rules.{rules}
 use mathlib.Core.Path.{sym, ◌∙◌}
 use lib.ListN.{length}
 use Rattle.tape_markup.specs.Places.{tokens_at}
-use Rattle.tape_files.proofs.Bare.{Sought, sought_none, sought-over, sought-here, sought-later, sought-less}
+use Rattle.tape_files.proofs.Bare.{Sought, sought_none, sought_over, sought_here, sought_later, sought_less}
 use Rattle.tape_files.proofs.elements.named_from.Statement.{statement}
 use Rattle.tape_files.proofs.elements.named_from.Tie as tie
 
@@ -27,7 +27,7 @@ returns : tie.Need-returns invariant-loop decreases-loop
 returns c =
     let c1 = c.before in
     let c3 = c1.before.before in
-    sought-over _ _ _ _ c3.before.loop.invariant _ (rw c1.child.given.1 at c3.child-from.ensures)
+    sought_over _ _ _ _ c3.before.loop.invariant _ (rw c1.child.given.1 at c3.child-from.ensures)
 
 enum-known-child-2 : tie.Need-enum-known-child-2 invariant-loop decreases-loop
 enum-known-child-2 c = search rules
@@ -40,7 +40,7 @@ returns-2 c =
     let c1 = c.before in
     let c3 = c1.before.before in
     let c5 = c3.before.before in
-    sought-here _ _ _ _ c5.before.loop.invariant _ _ _ (rw c3.child2.given.1 at c5.child-from.ensures) (sym c1.is-named.ensures ∙ c.if1.true)
+    sought_here _ _ _ _ c5.before.loop.invariant _ _ _ (rw c3.child2.given.1 at c5.child-from.ensures) (sym c1.is-named.ensures ∙ c.if1.true)
 
 past-end-requires : tie.Need-past-end-requires invariant-loop decreases-loop
 past-end-requires c κs =
@@ -52,7 +52,7 @@ loop-less : tie.Need-loop-smaller invariant-loop decreases-loop
 loop-less c =
     let c4 = c.before.before.before.before in
     let c6 = c4.before.before in
-    sought-less _ _ _ _ c6.before.loop.invariant _ _ _ (rw c4.child2.given.1 at c6.child-from.ensures) _ c.past-end.ensures
+    sought_less _ _ _ _ c6.before.loop.invariant _ _ _ (rw c4.child2.given.1 at c6.child-from.ensures) _ c.past-end.ensures
 
 loop-again : tie.Need-loop-preserved invariant-loop decreases-loop
 loop-again c =
@@ -60,7 +60,7 @@ loop-again c =
     let c2 = c1.before in
     let c4 = c2.before.before in
     let c6 = c4.before.before in
-    sought-later _ _ _ _ c6.before.loop.invariant _ _ _ (rw c4.child2.given.1 at c6.child-from.ensures) _ c.past-end.ensures (sym c2.is-named.ensures ∙ c1.if1.false)
+    sought_later _ _ _ _ c6.before.loop.invariant _ _ _ (rw c4.child2.given.1 at c6.child-from.ensures) _ c.past-end.ensures (sym c2.is-named.ensures ∙ c1.if1.false)
 
 pub named-from-spec : {M : Type 1} → statement M
 named-from-spec =

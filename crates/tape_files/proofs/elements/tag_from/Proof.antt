@@ -2,7 +2,7 @@
 -- Assumes nothing.
 use Rattle.tape_markup.proofs.Meets.{step_told, begins_fewer, unread, unread_token, unread_past}
 use Rattle.tape_markup.proofs.Texts.{text_less}
-use Rattle.tape_files.proofs.Frames.{Seeking, seeking_none, seek-text, seek-end, seek-broken, seek-past, seek-byte, seek-start, seek-finish}
+use Rattle.tape_files.proofs.Frames.{Seeking, seeking_none, seek_text, seek_end, seek_broken, seek_past, seek_byte, seek_start, seek_finish}
 use borrow.Author.Rules.{rules}
 use Rattle.tape_files.proofs.elements.tag_from.Statement.{statement}
 use Rattle.tape_files.proofs.elements.tag_from.Tie as tie
@@ -23,13 +23,13 @@ enum_told : tie.Need-enum-told invariant-loop decreases-loop
 enum_told c = search rules
 
 returns : tie.Need-returns invariant-loop decreases-loop
-returns c = seek-end _ _ _ c.before.before.before.loop.invariant (rw c.enum_told.given.1 at (step_told _ _ _ c.before.before.before.loop.invariant.within c.before.before.step_from.ensures))
+returns c = seek_end _ _ _ c.before.before.before.loop.invariant (rw c.enum_told.given.1 at (step_told _ _ _ c.before.before.before.loop.invariant.within c.before.before.step_from.ensures))
 
 enum-told-2 : tie.Need-enum-told-2 invariant-loop decreases-loop
 enum-told-2 c = search rules
 
 returns-2 : tie.Need-returns-2 invariant-loop decreases-loop
-returns-2 c = seek-broken _ _ _ c.before.before.before.loop.invariant (rw c.enum-told2.given.1 at (step_told _ _ _ c.before.before.before.loop.invariant.within c.before.before.step_from.ensures))
+returns-2 c = seek_broken _ _ _ c.before.before.before.loop.invariant (rw c.enum-told2.given.1 at (step_told _ _ _ c.before.before.before.loop.invariant.within c.before.before.step_from.ensures))
 
 enum-known-step : tie.Need-enum-known-step invariant-loop decreases-loop
 enum-known-step c = search rules
@@ -45,7 +45,7 @@ loop-less c =
 loop-again : tie.Need-loop-preserved invariant-loop decreases-loop
 loop-again c =
     let m = rw c.before.before.step.given.1 at (step_told _ _ _ c.before.before.before.before.before.loop.invariant.within c.before.before.before.before.step_from.ensures) in
-    seek-text _ _ _ (seek-byte _ _ _ c.before.before.before.before.before.loop.invariant _ _ m) _ c.behind-text.ensures
+    seek_text _ _ _ (seek_byte _ _ _ c.before.before.before.before.before.loop.invariant _ _ m) _ c.behind-text.ensures
 
 enum-known-step-2 : tie.Need-enum-known-step-2 invariant-loop decreases-loop
 enum-known-step-2 c = search rules
@@ -53,7 +53,7 @@ enum-known-step-2 c = search rules
 returns-3 : tie.Need-returns-3 invariant-loop decreases-loop
 returns-3 c =
     let m = rw c.before.step2.given.1 at (step_told _ _ _ c.before.before.before.before.loop.invariant.within c.before.before.before.step_from.ensures) in
-    seek-start _ _ _ c.before.before.before.before.loop.invariant _ _ _ m.0 m.1
+    seek_start _ _ _ c.before.before.before.before.loop.invariant _ _ _ m.0 m.1
 
 enum-known-step-3 : tie.Need-enum-known-step-3 invariant-loop decreases-loop
 enum-known-step-3 c = search rules
@@ -61,7 +61,7 @@ enum-known-step-3 c = search rules
 returns-4 : tie.Need-returns-4 invariant-loop decreases-loop
 returns-4 c =
     let m = rw c.before.step3.given.1 at (step_told _ _ _ c.before.before.before.before.loop.invariant.within c.before.before.before.step_from.ensures) in
-    seek-finish _ _ _ c.before.before.before.before.loop.invariant _ _ m.0
+    seek_finish _ _ _ c.before.before.before.before.loop.invariant _ _ m.0
 
 enum-known-step-4 : tie.Need-enum-known-step-4 invariant-loop decreases-loop
 enum-known-step-4 c = search rules
@@ -77,7 +77,7 @@ loop-less-2 c =
 loop-again-2 : tie.Need-loop-preserved-2 invariant-loop decreases-loop
 loop-again-2 c =
     let m = rw c.before.before.step4.given.1 at (step_told _ _ _ c.before.before.before.before.before.loop.invariant.within c.before.before.before.before.step_from.ensures) in
-    seek-text _ _ _ (seek-past _ _ _ c.before.before.before.before.before.loop.invariant _ m) _ c.behind-text2.ensures
+    seek_text _ _ _ (seek_past _ _ _ c.before.before.before.before.before.loop.invariant _ m) _ c.behind-text2.ensures
 
 pub tag-from-spec : {M : Type 1} → statement M
 tag-from-spec =

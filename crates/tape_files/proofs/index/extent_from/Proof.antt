@@ -4,7 +4,7 @@ use borrow.Author.Rules.{rules}
 use native.Mathlib.Omega.{arith}
 use lib.ListN.{length}
 use Rattle.tape_markup.specs.Places.{tokens_at}
-use Rattle.tape_files.proofs.Extents.{ExtentLeft, extent_none, extent-over, extent-more}
+use Rattle.tape_files.proofs.Extents.{ExtentLeft, extent_none, extent_over, extent_more}
 use Rattle.tape_files.proofs.index.extent_from.Statement.{statement}
 use Rattle.tape_files.proofs.index.extent_from.Tie as tie
 
@@ -27,7 +27,7 @@ returns : tie.Need-returns invariant-loop decreases-loop
 returns c =
     let c1 = c.before in
     let c3 = c1.before.before in
-    extent-over _ _ _ _ c3.before.loop.invariant _ (rw c1.child.given.1 at c3.child-from.ensures)
+    extent_over _ _ _ _ c3.before.loop.invariant _ (rw c1.child.given.1 at c3.child-from.ensures)
 
 enum-known-child-2 : tie.Need-enum-known-child-2 invariant-loop decreases-loop
 enum-known-child-2 c = search rules
@@ -57,7 +57,7 @@ loop-again c =
     let c5 = c3.before.before in
     let m = rw c3.child2.given.1 at c5.child-from.ensures in
     let v = c1.read-value.ensures in
-    extent-more _ _ _ _ c5.before.loop.invariant _ _ _ _ _ _ _ m v.2 v.0 v.1 c.said-with.ensures
+    extent_more _ _ _ _ c5.before.loop.invariant _ _ _ _ _ _ _ m v.2 v.0 v.1 c.said-with.ensures
 
 pub extent-from-spec : {M : Type 1} → statement M
 extent-from-spec =

@@ -8,7 +8,7 @@ use lib.ListN.{length}
 use Rattle.tape_markup.specs.Places.{tokens_at}
 use Rattle.tape_files.specs.Index.{label_name, block_size_name, partitions_name, data_name}
 use Rattle.tape_files.specs.Values.{number_field, letter_field, first_field}
-use Rattle.tape_files.proofs.Bare.{ReadTo, read_none, read_more, read-over, read_less, field_step}
+use Rattle.tape_files.proofs.Bare.{ReadTo, read_none, read_more, read_over, read_less, field_step}
 use Rattle.tape_files.proofs.Whole.{label_whole}
 use Rattle.tape_files.proofs.labels.read_label.Statement.{statement}
 use Rattle.tape_files.proofs.labels.read_label.Tie as tie
@@ -37,7 +37,7 @@ returns c =
     let c2 = c.before.before in
     let c4 = c2.before.before in
     let m = rw c.enum_told.given.1 at c2.named-from.ensures in
-    label_whole _ _ _ (read-over (field_step number_field (block_size_name ∷ [])) _ _ _ _ _ _ c4.loop.invariant.0 _ m).0 (read-over (field_step letter_field (partitions_name ∷ data_name ∷ [])) _ _ _ _ _ _ c4.loop.invariant.1 _ m).0
+    label_whole _ _ _ (read_over (field_step number_field (block_size_name ∷ [])) _ _ _ _ _ _ c4.loop.invariant.0 _ m).0 (read_over (field_step letter_field (partitions_name ∷ data_name ∷ [])) _ _ _ _ _ _ c4.loop.invariant.1 _ m).0
 
 enum-known-met : tie.Need-enum-known-met invariant-loop decreases-loop
 enum-known-met c = search rules

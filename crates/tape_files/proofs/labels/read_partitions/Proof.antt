@@ -7,7 +7,7 @@ use lib.ListN.{length}
 use Rattle.tape_markup.specs.Places.{tokens_at}
 use Rattle.tape_files.specs.Index.{partitions_name, data_name}
 use Rattle.tape_files.specs.Values.{letter_field, first_field}
-use Rattle.tape_files.proofs.Bare.{ReadTo, read_none, read_more, read-over, read_less, field_step, field-said}
+use Rattle.tape_files.proofs.Bare.{ReadTo, read_none, read_more, read_over, read_less, field_step, field_said}
 use Rattle.tape_files.proofs.labels.read_partitions.Statement.{statement}
 use Rattle.tape_files.proofs.labels.read_partitions.Tie as tie
 
@@ -34,8 +34,8 @@ returns : tie.Need-returns invariant-loop decreases-loop
 returns c =
     let c1 = c.before in
     let c3 = c1.before.before in
-    let r = read-over (field_step letter_field (data_name ∷ [])) _ _ _ _ _ _ c3.before.before.loop.invariant _ (rw c1.met.given.1 at c3.named-from.ensures) in
-    (r.0 ∙ field-said letter_field (data_name ∷ []) partitions_name _, r.1)
+    let r = read_over (field_step letter_field (data_name ∷ [])) _ _ _ _ _ _ c3.before.before.loop.invariant _ (rw c1.met.given.1 at c3.named-from.ensures) in
+    (r.0 ∙ field_said letter_field (data_name ∷ []) partitions_name _, r.1)
 
 enum-known-met-2 : tie.Need-enum-known-met-2 invariant-loop decreases-loop
 enum-known-met-2 c = search rules

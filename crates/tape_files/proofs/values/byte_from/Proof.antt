@@ -1,6 +1,6 @@
 -- `tape_files::values::byte_from` meets its contract: what is passed over has no byte directly in the element.
 -- Assumes nothing.
-use Rattle.tape_files.proofs.Bare.{BytesLeft, bytes_none, byte-met, bytes_past, bytes-start, bytes-over, bytes-finish}
+use Rattle.tape_files.proofs.Bare.{BytesLeft, bytes_none, byte_met, bytes_past, bytes_start, bytes_over, bytes_finish}
 use Rattle.tape_markup.proofs.Meets.{step_told, begins_fewer, unread, unread_token, unread_past}
 use Rattle.tape_files.proofs.Frames.{frames_none, frames_broken}
 use borrow.Author.Rules.{rules}
@@ -29,7 +29,7 @@ returns : tie.Need-returns invariant-loop decreases-loop
 returns c =
     let c2 = c.before.before in
     let c3 = c2.before in
-    bytes-over _ _ _ c3.loop.invariant (frames_none _ _ (rw c.enum_told.given.1 at (step_told _ _ _ c2.before.loop.invariant.around.within c2.step_from.ensures)))
+    bytes_over _ _ _ c3.loop.invariant (frames_none _ _ (rw c.enum_told.given.1 at (step_told _ _ _ c2.before.loop.invariant.around.within c2.step_from.ensures)))
 
 enum-told-2 : tie.Need-enum-told-2 invariant-loop decreases-loop
 enum-told-2 c = search rules
@@ -38,7 +38,7 @@ returns-2 : tie.Need-returns-2 invariant-loop decreases-loop
 returns-2 c =
     let c2 = c.before.before in
     let c3 = c2.before in
-    bytes-over _ _ _ c3.loop.invariant (frames_broken _ _ (rw c.enum-told2.given.1 at (step_told _ _ _ c2.before.loop.invariant.around.within c2.step_from.ensures)))
+    bytes_over _ _ _ c3.loop.invariant (frames_broken _ _ (rw c.enum-told2.given.1 at (step_told _ _ _ c2.before.loop.invariant.around.within c2.step_from.ensures)))
 
 enum-known-step : tie.Need-enum-known-step invariant-loop decreases-loop
 enum-known-step c = search rules
@@ -48,7 +48,7 @@ returns-3 c =
     let c1 = c.before in
     let c3 = c1.before.before in
     let m = rw c1.step.given.1 at (step_told _ _ _ c3.before.loop.invariant.around.within c3.step_from.ensures) in
-    byte-met _ _ _ c3.before.loop.invariant _ _ m
+    byte_met _ _ _ c3.before.loop.invariant _ _ m
 
 enum-known-step-2 : tie.Need-enum-known-step-2 invariant-loop decreases-loop
 enum-known-step-2 c = search rules
@@ -75,7 +75,7 @@ loop-again c =
     let c4 = c2.before.before in
     let c5 = c4.before in
     let m = rw c2.step2.given.1 at (step_told _ _ _ c4.before.loop.invariant.around.within c4.step_from.ensures) in
-    bytes-start _ _ _ c5.loop.invariant _ _ _ m.0 c.past-end.ensures
+    bytes_start _ _ _ c5.loop.invariant _ _ _ m.0 c.past-end.ensures
 
 enum-known-step-3 : tie.Need-enum-known-step-3 invariant-loop decreases-loop
 enum-known-step-3 c = search rules
@@ -86,7 +86,7 @@ returns-4 c =
     let c3 = c1.before.before in
     let c4 = c3.before in
     let m = rw c1.step3.given.1 at (step_told _ _ _ c3.before.loop.invariant.around.within c3.step_from.ensures) in
-    bytes-finish _ _ _ c4.loop.invariant _ _ m.0
+    bytes_finish _ _ _ c4.loop.invariant _ _ m.0
 
 enum-known-step-4 : tie.Need-enum-known-step-4 invariant-loop decreases-loop
 enum-known-step-4 c = search rules

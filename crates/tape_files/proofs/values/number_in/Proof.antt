@@ -1,24 +1,24 @@
 -- `tape_files::values::number_in` meets its contract.
 -- Assumes nothing.
 use borrow.Author.Tests.{not-true, not-false}
-use Rattle.tape_files.proofs.Digits.{number-none, number-bad, number-good}
+use Rattle.tape_files.proofs.Digits.{number_none, number_bad, number_good}
 use Rattle.tape_files.proofs.values.number_in.Statement.{statement}
 use Rattle.tape_files.proofs.values.number_in.Tie as tie
 
 returns : tie.Need-returns
 returns c =
     let c2 = c.before.before in
-    λ bytes e. number-none c2.args.chars bytes e (not-true _ c.if1.true)
+    λ bytes e. number_none c2.args.chars bytes e (not-true _ c.if1.true)
 
 returns-2 : tie.Need-returns-2
 returns-2 c =
     let c4 = c.before.before.before.before in
-    λ bytes e. number-bad c4.args.chars bytes e (not-true _ c.if2.true)
+    λ bytes e. number_bad c4.args.chars bytes e (not-true _ c.if2.true)
 
 returns-3 : tie.Need-returns-3
 returns-3 c =
     let c4 = c.before.before.before.before in
-    λ bytes e. number-good c4.args.chars bytes e (not-false _ c.if2.false)
+    λ bytes e. number_good c4.args.chars bytes e (not-false _ c.if2.false)
 
 pub number-in-spec : {M : Type 1} → statement M
 number-in-spec = tie.close (tie.spec returns returns-2 returns-3)

@@ -3,7 +3,7 @@
 use borrow.Author.Rules.{rules}
 use lib.ListN.{length}
 use Rattle.tape_markup.specs.Places.{tokens_at}
-use Rattle.tape_files.proofs.Bare.{CharsLeft, chars_none, chars-byte, chars-over}
+use Rattle.tape_files.proofs.Bare.{CharsLeft, chars_none, chars_byte, chars_over}
 use Rattle.tape_files.proofs.values.read_chars.Statement.{statement}
 use Rattle.tape_files.proofs.values.read_chars.Tie as tie
 
@@ -26,7 +26,7 @@ returns : tie.Need-returns invariant-loop decreases-loop
 returns c =
     let c1 = c.before in
     let c3 = c1.before.before in
-    chars-over _ _ _ _ c3.before.loop.invariant _ (rw c1.met.given.1 at c3.byte-from.ensures)
+    chars_over _ _ _ _ c3.before.loop.invariant _ (rw c1.met.given.1 at c3.byte-from.ensures)
 
 enum-known-met-2 : tie.Need-enum-known-met-2 invariant-loop decreases-loop
 enum-known-met-2 c = search rules
@@ -45,7 +45,7 @@ loop-again c =
     let c2 = c.before.before in
     let c4 = c2.before.before in
     let m = rw c2.met2.given.1 at c4.byte-from.ensures in
-    chars-byte _ _ _ _ c4.before.loop.invariant _ _ _ m c.with_byte.ensures
+    chars_byte _ _ _ _ c4.before.loop.invariant _ _ _ m c.with_byte.ensures
 
 pub read-chars-spec : {M : Type 1} → statement M
 read-chars-spec =

@@ -6,7 +6,7 @@ use mathlib.Core.List.{[]}
 use lib.ListN.{length}
 use Rattle.tape_markup.specs.Places.{tokens_at}
 use Rattle.tape_files.specs.Values.{number_field, letter_field, first_field}
-use Rattle.tape_files.proofs.Bare.{ReadTo, read_none, read_more, read-over, read_less, field_step, field-said, value_said}
+use Rattle.tape_files.proofs.Bare.{ReadTo, read_none, read_more, read_over, read_less, field_step, field_said, value_said}
 use Rattle.tape_files.proofs.values.read_field.Statement.{statement}
 use Rattle.tape_files.proofs.values.read_field.Tie as tie
 
@@ -31,9 +31,9 @@ returns c =
     let c1 = c.before in
     let c3 = c1.before.before in
     let m = rw c1.met.given.1 at c3.named-from.ensures in
-    let l = read-over (field_step letter_field []) _ _ _ _ _ _ c3.before.loop.invariant.0 _ m in
-    let n = read-over (field_step number_field []) _ _ _ _ _ _ c3.before.loop.invariant.1 _ m in
-    (l.0 ∙ field-said letter_field [] _ _, n.0 ∙ field-said number_field [] _ _, l.1)
+    let l = read_over (field_step letter_field []) _ _ _ _ _ _ c3.before.loop.invariant.0 _ m in
+    let n = read_over (field_step number_field []) _ _ _ _ _ _ c3.before.loop.invariant.1 _ m in
+    (l.0 ∙ field_said letter_field [] _ _, n.0 ∙ field_said number_field [] _ _, l.1)
 
 enum-known-met-2 : tie.Need-enum-known-met-2 invariant-loop decreases-loop
 enum-known-met-2 c = search rules

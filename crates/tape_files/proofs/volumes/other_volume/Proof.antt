@@ -3,7 +3,7 @@
 use mathlib.Core.Path.{ap, ◌∙◌}
 use mathlib.Core.Bool.{not}
 use borrow.Author.Rules.{rules}
-use Rattle.tape_files.proofs.Uuids.{no-label-volume, no-index-volume, both-volumes}
+use Rattle.tape_files.proofs.Uuids.{no_label_volume, no_index_volume, both_volumes}
 use Rattle.tape_files.proofs.volumes.other_volume.Statement.{statement}
 use Rattle.tape_files.proofs.volumes.other_volume.Tie as tie
 
@@ -20,7 +20,7 @@ enum_told : tie.Need-enum-told
 enum_told c = search rules
 
 returns : tie.Need-returns
-returns c = no-label-volume _ _ (rw c.enum_told.given.1 at c.before.before.volume-in.ensures)
+returns c = no_label_volume _ _ (rw c.enum_told.given.1 at c.before.before.volume-in.ensures)
 
 slice-aggregate-volume-in-2 : tie.Need-slice-aggregate-volume-in-2
 slice-aggregate-volume-in-2 c = search rules
@@ -38,7 +38,7 @@ returns-2 : tie.Need-returns-2
 returns-2 c =
     let c2 = c.before.before in
     let c5 = c2.before.before.before in
-    no-index-volume _ _ _ (rw c5.said.given.1 at c5.before.before.volume-in.ensures) (rw c.enum-told2.given.1 at c2.volume-in2.ensures)
+    no_index_volume _ _ _ (rw c5.said.given.1 at c5.before.before.volume-in.ensures) (rw c.enum-told2.given.1 at c2.volume-in2.ensures)
 
 same-chars-requires : tie.Need-same-chars-requires
 same-chars-requires c κs =
@@ -56,7 +56,7 @@ returns-3 c =
     let c7 = c4.before.before.before in
     let v = rw c7.said.given.1 at c7.before.before.volume-in.ensures in
     let w = rw c2.beside.given.1 at c4.volume-in2.ensures in
-    ap not c.same_chars.ensures ∙ both-volumes _ _ _ v _ w
+    ap not c.same_chars.ensures ∙ both_volumes _ _ _ v _ w
 
 pub other-volume-spec : {M : Type 1} → statement M
 other-volume-spec =

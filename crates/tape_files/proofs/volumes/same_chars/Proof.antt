@@ -4,7 +4,7 @@ use mathlib.Core.Path.{◌∙◌}
 use borrow.Author.Rules.{rules}
 use lib.ListN.{length}
 use Rattle.tape_markup.specs.Places.{tokens_at}
-use Rattle.tape_files.proofs.Uuids.{Alike, alike_none, alike-over, alike-short, alike-other, alike-more}
+use Rattle.tape_files.proofs.Uuids.{Alike, alike_none, alike_over, alike_short, alike_other, alike_more}
 use Rattle.tape_files.proofs.volumes.same_chars.Statement.{statement}
 use Rattle.tape_files.proofs.volumes.same_chars.Tie as tie
 
@@ -34,7 +34,7 @@ returns c =
     let c1 = c.before in
     let c3 = c1.before.before in
     let c4 = c3.before in
-    c.is-over.ensures ∙ alike-over _ _ _ _ _ _ c4.before.loop.invariant _ (rw c1.enum_told.given.1 at c4.byte-from.ensures) c3.byte-from2.result c3.byte-from2.ensures
+    c.is-over.ensures ∙ alike_over _ _ _ _ _ _ c4.before.loop.invariant _ (rw c1.enum_told.given.1 at c4.byte-from.ensures) c3.byte-from2.result c3.byte-from2.ensures
 
 enum-known-met : tie.Need-enum-known-met invariant-loop decreases-loop
 enum-known-met c = search rules
@@ -47,7 +47,7 @@ returns-2 c =
     let c3 = c.before.before.before in
     let c5 = c3.before.before in
     let c6 = c5.before in
-    alike-short _ _ _ _ _ _ c6.before.loop.invariant _ _ (rw c3.met.given.1 at c6.byte-from.ensures) _ (rw c.enum-told2.given.1 at c5.byte-from2.ensures)
+    alike_short _ _ _ _ _ _ c6.before.loop.invariant _ _ (rw c3.met.given.1 at c6.byte-from.ensures) _ (rw c.enum-told2.given.1 at c5.byte-from2.ensures)
 
 enum-known-beside : tie.Need-enum-known-beside invariant-loop decreases-loop
 enum-known-beside c = search rules
@@ -58,7 +58,7 @@ returns-3 c =
     let c5 = c2.before.before.before in
     let c7 = c5.before.before in
     let c8 = c7.before in
-    alike-other _ _ _ _ _ _ c8.before.loop.invariant _ _ (rw c5.met.given.1 at c8.byte-from.ensures) _ _ (rw c2.beside.given.1 at c7.byte-from2.ensures) c.if1.true
+    alike_other _ _ _ _ _ _ c8.before.loop.invariant _ _ (rw c5.met.given.1 at c8.byte-from.ensures) _ _ (rw c2.beside.given.1 at c7.byte-from2.ensures) c.if1.true
 
 loop-less : tie.Need-loop-smaller invariant-loop decreases-loop
 loop-less c =
@@ -72,7 +72,7 @@ loop-again c =
     let c5 = c2.before.before.before in
     let c7 = c5.before.before in
     let c8 = c7.before in
-    alike-more _ _ _ _ _ _ c8.before.loop.invariant _ _ (rw c5.met.given.1 at c8.byte-from.ensures) _ _ (rw c2.beside.given.1 at c7.byte-from2.ensures) c.if1.false
+    alike_more _ _ _ _ _ _ c8.before.loop.invariant _ _ (rw c5.met.given.1 at c8.byte-from.ensures) _ _ (rw c2.beside.given.1 at c7.byte-from2.ensures) c.if1.false
 
 pub same-chars-spec : {M : Type 1} → statement M
 same-chars-spec =

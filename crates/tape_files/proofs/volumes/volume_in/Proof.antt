@@ -3,7 +3,7 @@
 use borrow.Author.Rules.{rules}
 use lib.ListN.{length}
 use Rattle.tape_markup.specs.Places.{tokens_at}
-use Rattle.tape_files.proofs.Uuids.{VolumesLeft, volumes_none, volumes-over, volume-found, volumes-more, volumes-less}
+use Rattle.tape_files.proofs.Uuids.{VolumesLeft, volumes_none, volumes_over, volume_found, volumes_more, volumes_less}
 use Rattle.tape_files.proofs.volumes.volume_in.Statement.{statement}
 use Rattle.tape_files.proofs.volumes.volume_in.Tie as tie
 
@@ -26,7 +26,7 @@ returns : tie.Need-returns invariant-loop decreases-loop
 returns c =
     let c1 = c.before in
     let c3 = c1.before.before in
-    volumes-over _ _ _ c3.before.loop.invariant _ (rw c1.met.given.1 at c3.named-from.ensures)
+    volumes_over _ _ _ c3.before.loop.invariant _ (rw c1.met.given.1 at c3.named-from.ensures)
 
 enum-known-met-2 : tie.Need-enum-known-met-2 invariant-loop decreases-loop
 enum-known-met-2 c = search rules
@@ -49,7 +49,7 @@ returns-2 c =
     let c3 = c1.before.before in
     let c6 = c3.before.before.before in
     let c8 = c6.before.before in
-    volume-found _ _ _ c8.before.loop.invariant _ (rw c6.met2.given.1 at c8.named-from.ensures) _ (rw c1.volume.given.1 at c3.named-from2.ensures)
+    volume_found _ _ _ c8.before.loop.invariant _ (rw c6.met2.given.1 at c8.named-from.ensures) _ (rw c1.volume.given.1 at c3.named-from2.ensures)
 
 enum-known-volume-2 : tie.Need-enum-known-volume-2 invariant-loop decreases-loop
 enum-known-volume-2 c = search rules
@@ -60,7 +60,7 @@ loop-less c =
     let c3 = c1.before.before in
     let c6 = c3.before.before.before in
     let c8 = c6.before.before in
-    volumes-less _ _ _ c8.before.loop.invariant _ (rw c6.met2.given.1 at c8.named-from.ensures) _ (rw c1.volume2.given.1 at c3.named-from2.ensures)
+    volumes_less _ _ _ c8.before.loop.invariant _ (rw c6.met2.given.1 at c8.named-from.ensures) _ (rw c1.volume2.given.1 at c3.named-from2.ensures)
 
 loop-again : tie.Need-loop-preserved invariant-loop decreases-loop
 loop-again c =
@@ -68,7 +68,7 @@ loop-again c =
     let c3 = c1.before.before in
     let c6 = c3.before.before.before in
     let c8 = c6.before.before in
-    volumes-more _ _ _ c8.before.loop.invariant _ (rw c6.met2.given.1 at c8.named-from.ensures) _ (rw c1.volume2.given.1 at c3.named-from2.ensures)
+    volumes_more _ _ _ c8.before.loop.invariant _ (rw c6.met2.given.1 at c8.named-from.ensures) _ (rw c1.volume2.given.1 at c3.named-from2.ensures)
 
 pub volume-in-spec : {M : Type 1} → statement M
 volume-in-spec =

@@ -8,7 +8,7 @@ use borrow.Author.Tests.{not-true, not-false}
 use Rattle.tape_markup.specs.Tree.{most_open}
 use Rattle.tape_markup.proofs.Meets.{step_told, begins_fewer, unread, unread_token, unread_past}
 use Rattle.tape_markup.proofs.Texts.{text_less, balance_text}
-use Rattle.tape_markup.proofs.Names.{Balancing, balancing_none, balance-end, balance-broken, balance-past, balance-byte, balance-full, balance-open, balance-outside, balance-name, balance-other, balance-close}
+use Rattle.tape_markup.proofs.Names.{Balancing, balancing_none, balance_end, balance_broken, balance_past, balance_byte, balance_full, balance_open, balance_outside, balance_name, balance_other, balance_close}
 use borrow.Author.Rules.{rules}
 use native.Mathlib.Omega.{arith}
 use Rattle.tape_markup.proofs.balance.is_balanced.Statement.{statement}
@@ -49,13 +49,13 @@ enum_told : tie.Need-enum-told invariant-loop decreases-loop
 enum_told c = search rules
 
 returns : tie.Need-returns invariant-loop decreases-loop
-returns c = balance-end _ _ _ _ _ c.before.before.before.loop.invariant (step_told _ _ _ c.before.before.before.loop.invariant.within (sym c.enum_told.given.1 ∙ c.before.before.step_from.ensures))
+returns c = balance_end _ _ _ _ _ c.before.before.before.loop.invariant (step_told _ _ _ c.before.before.before.loop.invariant.within (sym c.enum_told.given.1 ∙ c.before.before.step_from.ensures))
 
 enum-told-2 : tie.Need-enum-told-2 invariant-loop decreases-loop
 enum-told-2 c = search rules
 
 returns-2 : tie.Need-returns-2 invariant-loop decreases-loop
-returns-2 c = balance-broken _ _ _ _ _ c.before.before.before.loop.invariant (step_told _ _ _ c.before.before.before.loop.invariant.within (sym c.enum-told2.given.1 ∙ c.before.before.step_from.ensures))
+returns-2 c = balance_broken _ _ _ _ _ c.before.before.before.loop.invariant (step_told _ _ _ c.before.before.before.loop.invariant.within (sym c.enum-told2.given.1 ∙ c.before.before.step_from.ensures))
 
 enum-known-step : tie.Need-enum-known-step invariant-loop decreases-loop
 enum-known-step c = search rules
@@ -70,7 +70,7 @@ loop-less c =
 
 loop-again : tie.Need-loop-preserved invariant-loop decreases-loop
 loop-again c =
-    balance_text _ _ _ _ _ _ (balance-byte _ _ _ _ _ c.before.before.before.before.before.loop.invariant _ _ (step_told _ _ _ c.before.before.before.before.before.loop.invariant.within (sym c.before.before.step.given.1 ∙ c.before.before.before.before.step_from.ensures))) c.behind-text.ensures
+    balance_text _ _ _ _ _ _ (balance_byte _ _ _ _ _ c.before.before.before.before.before.loop.invariant _ _ (step_told _ _ _ c.before.before.before.before.before.loop.invariant.within (sym c.before.before.step.given.1 ∙ c.before.before.before.before.step_from.ensures))) c.behind-text.ensures
 
 enum-known-step-2 : tie.Need-enum-known-step-2 invariant-loop decreases-loop
 enum-known-step-2 c = search rules
@@ -78,7 +78,7 @@ enum-known-step-2 c = search rules
 returns-3 : tie.Need-returns-3 invariant-loop decreases-loop
 returns-3 c =
     let m = step_told _ _ _ c.before.before.before.before.before.loop.invariant.within (sym c.before.before.step2.given.1 ∙ c.before.before.before.before.step_from.ensures) in
-    balance-full _ _ _ _ _ c.before.before.before.before.before.loop.invariant _ _ m.0 c.if1.true
+    balance_full _ _ _ _ _ c.before.before.before.before.before.loop.invariant _ _ m.0 c.if1.true
 
 mul-froms : tie.Need-overflow-mul-froms invariant-loop decreases-loop
 mul-froms c = open-bytes _ c.before.before.before.before.before.loop.invariant.few
@@ -106,7 +106,7 @@ loop-less-2 c =
 loop-again-2 : tie.Need-loop-preserved-2 invariant-loop decreases-loop
 loop-again-2 c =
     let m = step_told _ _ _ c.before.before.before.before.before.before.loop.invariant.within (sym c.before.before.before.step2.given.1 ∙ c.before.before.before.before.before.step_from.ensures) in
-    balance_text _ _ _ _ _ _ (balance-open _ _ _ _ _ c.before.before.before.before.before.before.loop.invariant _ _ _ m.0 m.1 c.before.if1.false) c.behind-text2.ensures
+    balance_text _ _ _ _ _ _ (balance_open _ _ _ _ _ c.before.before.before.before.before.before.loop.invariant _ _ _ m.0 m.1 c.before.if1.false) c.behind-text2.ensures
 
 enum-known-step-3 : tie.Need-enum-known-step-3 invariant-loop decreases-loop
 enum-known-step-3 c = search rules
@@ -114,7 +114,7 @@ enum-known-step-3 c = search rules
 returns-4 : tie.Need-returns-4 invariant-loop decreases-loop
 returns-4 c =
     let m = step_told _ _ _ c.before.before.before.before.before.loop.invariant.within (sym c.before.before.step3.given.1 ∙ c.before.before.before.before.step_from.ensures) in
-    balance-outside _ _ _ _ _ c.before.before.before.before.before.loop.invariant _ _ m.0 c.if2.true
+    balance_outside _ _ _ _ _ c.before.before.before.before.before.loop.invariant _ _ m.0 c.if2.true
 
 sub_open : tie.Need-overflow-sub-open invariant-loop decreases-loop
 sub_open c = some-open _ c.if2.false
@@ -134,13 +134,13 @@ array-read-same-names-2 c = last-in _ c.before.before.before.before.before.loop.
 same-names-requires : tie.Need-same-names-requires invariant-loop decreases-loop
 same-names-requires c κs =
     let m = step_told _ _ _ c.before.before.before.before.before.loop.invariant.within (sym c.before.before.step3.given.1 ∙ c.before.before.before.before.step_from.ensures) in
-    let n = balance-name _ _ _ _ _ c.before.before.before.before.before.loop.invariant c.if2.false in
+    let n = balance_name _ _ _ _ _ c.before.before.before.before.before.loop.invariant c.if2.false in
     ((n.ordered, n.within), (m.1.ordered, m.1.within))
 
 returns-5 : tie.Need-returns-5 invariant-loop decreases-loop
 returns-5 c =
     let m = step_told _ _ _ c.before.before.before.before.before.before.before.loop.invariant.within (sym c.before.before.before.before.step3.given.1 ∙ c.before.before.before.before.before.before.step_from.ensures) in
-    balance-other _ _ _ _ _ c.before.before.before.before.before.before.before.loop.invariant _ _ m.0 c.before.before.if2.false
+    balance_other _ _ _ _ _ c.before.before.before.before.before.before.before.loop.invariant _ _ m.0 c.before.before.if2.false
     (sym c.before.same_names.ensures ∙ not-true _ c.if3.true)
 
 -- The way back from a place in the code to the one that the name says.
@@ -158,7 +158,7 @@ loop-less-3 c =
 loop-again-3 : tie.Need-loop-preserved-3 invariant-loop decreases-loop
 loop-again-3 c =
     let m = step_told _ _ _ (in-loop c).loop.invariant.within (sym c.before.before.before.before.before.step3.given.1 ∙ c.before.before.before.before.before.before.before.step_from.ensures) in
-    balance_text _ _ _ _ _ _ (balance-close _ _ _ _ _ (in-loop c).loop.invariant _ _ m.0 c.before.before.before.if2.false
+    balance_text _ _ _ _ _ _ (balance_close _ _ _ _ _ (in-loop c).loop.invariant _ _ m.0 c.before.before.before.if2.false
     (sym c.before.before.same_names.ensures ∙ not-false _ c.before.if3.false)) c.behind-text3.ensures
 
 enum-known-step-4 : tie.Need-enum-known-step-4 invariant-loop decreases-loop
@@ -175,7 +175,7 @@ loop-less-4 c =
 loop-again-4 : tie.Need-loop-preserved-4 invariant-loop decreases-loop
 loop-again-4 c =
     let m = step_told _ _ _ c.before.before.before.before.before.loop.invariant.within (sym c.before.before.step4.given.1 ∙ c.before.before.before.before.step_from.ensures) in
-    balance_text _ _ _ _ _ _ (balance-past _ _ _ _ _ c.before.before.before.before.before.loop.invariant _ m) c.behind-text4.ensures
+    balance_text _ _ _ _ _ _ (balance_past _ _ _ _ _ c.before.before.before.before.before.loop.invariant _ m) c.behind-text4.ensures
 
 pub is-balanced-spec : {M : Type 1} → statement M
 is-balanced-spec =

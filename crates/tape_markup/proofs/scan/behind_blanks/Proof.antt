@@ -5,7 +5,7 @@ use mathlib.Core.Path.{sym, ◌∙◌}
 use Prim.Native.Nat.{◌-◌}
 use lib.ListN.{length}
 use Rattle.tape_markup.specs.Markup.{is_blank}
-use Rattle.tape_markup.proofs.Scanning.{Fronted, fronted_none, fronted-more, fronted-ends, fronted-all}
+use Rattle.tape_markup.proofs.Scanning.{Fronted, fronted_none, fronted_more, fronted_ends, fronted_all}
 use borrow.Author.Rules.{rules}
 use Rattle.tape_markup.proofs.scan.behind_blanks.Statement.{statement}
 use Rattle.tape_markup.proofs.scan.behind_blanks.Tie as tie
@@ -26,7 +26,7 @@ is-blank-requires : tie.Need-is-blank-requires invariant-loop decreases-loop
 is-blank-requires c κs = search rules
 
 returns : tie.Need-returns invariant-loop decreases-loop
-returns c = fronted-ends is_blank _ _ _ c.before.before.before.before.loop.invariant (search rules) (sym c.before.is-blank.ensures ∙ not-true _ c.if1.true)
+returns c = fronted_ends is_blank _ _ _ c.before.before.before.before.loop.invariant (search rules) (sym c.before.is-blank.ensures ∙ not-true _ c.if1.true)
 
 add-i : tie.Need-overflow-add-i invariant-loop decreases-loop
 add-i c = search rules
@@ -35,10 +35,10 @@ loop-less : tie.Need-loop-smaller invariant-loop decreases-loop
 loop-less c = search rules
 
 loop-again : tie.Need-loop-preserved invariant-loop decreases-loop
-loop-again c = fronted-more is_blank _ _ _ c.before.before.before.before.loop.invariant (search rules) (sym c.before.is-blank.ensures ∙ not-false _ c.if1.false)
+loop-again c = fronted_more is_blank _ _ _ c.before.before.before.before.loop.invariant (search rules) (sym c.before.is-blank.ensures ∙ not-false _ c.if1.false)
 
 returns-2 : tie.Need-returns-2 invariant-loop decreases-loop
-returns-2 c = fronted-all is_blank _ _ _ c.before.loop.invariant c.loop-test.false
+returns-2 c = fronted_all is_blank _ _ _ c.before.loop.invariant c.loop-test.false
 
 pub behind-blanks-spec : {M : Type 1} → statement M
 behind-blanks-spec =

@@ -6,7 +6,7 @@ use mathlib.Core.Bool.{not}
 use Prim.Native.Nat.{◌-◌}
 use lib.ListN.{length}
 use Rattle.tape_markup.specs.Markup.{is_char}
-use Rattle.tape_markup.proofs.Scanning.{Fronted, fronted_none, fronted-more, fronted-ends, fronted-all}
+use Rattle.tape_markup.proofs.Scanning.{Fronted, fronted_none, fronted_more, fronted_ends, fronted_all}
 use borrow.Author.Rules.{rules}
 use Rattle.tape_markup.proofs.scan.behind_chars.Statement.{statement}
 use Rattle.tape_markup.proofs.scan.behind_chars.Tie as tie
@@ -24,7 +24,7 @@ shared-slice-read-if1 : tie.Need-shared-slice-read-if1 invariant-loop decreases-
 shared-slice-read-if1 c = search rules
 
 returns : tie.Need-returns invariant-loop decreases-loop
-returns c = fronted-ends is_char _ _ _ c.before.before.before.loop.invariant (search rules) (ap not (eq-eqb _ _ c.if1.true))
+returns c = fronted_ends is_char _ _ _ c.before.before.before.loop.invariant (search rules) (ap not (eq-eqb _ _ c.if1.true))
 
 add-i : tie.Need-overflow-add-i invariant-loop decreases-loop
 add-i c = search rules
@@ -33,10 +33,10 @@ loop-less : tie.Need-loop-smaller invariant-loop decreases-loop
 loop-less c = search rules
 
 loop-again : tie.Need-loop-preserved invariant-loop decreases-loop
-loop-again c = fronted-more is_char _ _ _ c.before.before.before.loop.invariant (search rules) (ap not (ne_eqb _ _ c.if1.false))
+loop-again c = fronted_more is_char _ _ _ c.before.before.before.loop.invariant (search rules) (ap not (ne_eqb _ _ c.if1.false))
 
 returns-2 : tie.Need-returns-2 invariant-loop decreases-loop
-returns-2 c = fronted-all is_char _ _ _ c.before.loop.invariant c.loop-test.false
+returns-2 c = fronted_all is_char _ _ _ c.before.loop.invariant c.loop-test.false
 
 pub behind-chars-spec : {M : Type 1} → statement M
 behind-chars-spec =

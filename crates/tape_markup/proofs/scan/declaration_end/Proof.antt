@@ -4,7 +4,7 @@ use mathlib.Core.Path.{sym, ◌∙◌}
 use Prim.Native.Nat.{◌-◌, ◌≤◌}
 use lib.ListN.{length, drop, get_or}
 use Rattle.tape_markup.specs.Markup.{declaration_end}
-use Rattle.tape_markup.proofs.Scanning.{Sought, sought_none, sought-at, sought-never, depth_grows, declaration-ends, declaration-unended, declaration-passed}
+use Rattle.tape_markup.proofs.Scanning.{Sought, sought_none, sought_at, sought_never, depth_grows, declaration_ends, declaration_unended, declaration_passed}
 use borrow.Author.Rules.{rules}
 use native.Mathlib.Omega.{arith}
 use Rattle.tape_markup.proofs.scan.declaration_end.Statement.{statement}
@@ -31,7 +31,7 @@ add-t12 c = search rules
 returns : tie.Need-returns invariant-loop decreases-loop
 returns c =
     let c4 = c.before.before.before.before in
-    sought-at _ _ _ _ _ c4.loop.invariant.0 1 (omega arith) (search rules) (declaration-ends c4.before.before.args.text.now c4.loop.i c4.loop.quote c4.loop.depth (search rules) (sym c.before.ends-declaration.ensures ∙ c.if1.true))
+    sought_at _ _ _ _ _ c4.loop.invariant.0 1 (omega arith) (search rules) (declaration_ends c4.before.before.args.text.now c4.loop.i c4.loop.quote c4.loop.depth (search rules) (sym c.before.ends-declaration.ensures ∙ c.if1.true))
 
 depth-after-requires : tie.Need-depth-after-requires invariant-loop decreases-loop
 depth-after-requires c κs = search rules
@@ -49,10 +49,10 @@ loop-again : tie.Need-loop-preserved invariant-loop decreases-loop
 loop-again c =
     let c4 = c.before.before.before.before in
     let c8 = c4.before.before.before.before in
-    (declaration-passed _ _ _ _ _ _ _ _ c4.before.before.loop.invariant.0 (search rules) (sym c.before.before.before.ends-declaration.ensures ∙ c.before.before.if1.false) c.quote-after.ensures c.before.depth-after.ensures, omega (arith, depth_grows c4.before.before.loop.quote c4.before.before.loop.depth (get_or c8.args.text.now c4.before.before.loop.i 0)))
+    (declaration_passed _ _ _ _ _ _ _ _ c4.before.before.loop.invariant.0 (search rules) (sym c.before.before.before.ends-declaration.ensures ∙ c.before.before.if1.false) c.quote-after.ensures c.before.depth-after.ensures, omega (arith, depth_grows c4.before.before.loop.quote c4.before.before.loop.depth (get_or c8.args.text.now c4.before.before.loop.i 0)))
 
 returns-2 : tie.Need-returns-2 invariant-loop decreases-loop
-returns-2 c = sought-never _ _ _ _ _ c.before.loop.invariant.0 (declaration-unended _ _ _ _ c.loop-test.false)
+returns-2 c = sought_never _ _ _ _ _ c.before.loop.invariant.0 (declaration_unended _ _ _ _ c.loop-test.false)
 
 pub declaration-end-spec : {M : Type 1} → statement M
 declaration-end-spec =

@@ -4,7 +4,7 @@ use mathlib.Core.Path.{sym, ◌∙◌}
 use Prim.Native.Nat.{◌-◌}
 use lib.ListN.{length, drop}
 use Rattle.tape_markup.specs.Markup.{end_behind}
-use Rattle.tape_markup.proofs.Scanning.{Sought, sought_none, sought-never, wanted-nowhere, wanted-passed, wanted-found}
+use Rattle.tape_markup.proofs.Scanning.{Sought, sought_none, sought_never, wanted_nowhere, wanted_passed, wanted_found}
 use borrow.Author.Rules.{rules}
 use native.Mathlib.Omega.{arith}
 use Rattle.tape_markup.proofs.scan.end_behind.Statement.{statement}
@@ -32,10 +32,10 @@ starts-requires : tie.Need-starts-requires invariant-loop decreases-loop
 starts-requires c κs = search rules
 
 add-t12 : tie.Need-overflow-add-t12 invariant-loop decreases-loop
-add-t12 c = let h = wanted-found _ _ _ _ _ c.before.before.before.before.loop.invariant (search rules) (search rules) (sym c.before.starts.ensures ∙ c.if1.true) in omega (arith, h.within)
+add-t12 c = let h = wanted_found _ _ _ _ _ c.before.before.before.before.loop.invariant (search rules) (search rules) (sym c.before.starts.ensures ∙ c.if1.true) in omega (arith, h.within)
 
 returns : tie.Need-returns invariant-loop decreases-loop
-returns c = wanted-found _ _ _ _ _ c.before.before.before.before.loop.invariant (search rules) (search rules) (sym c.before.starts.ensures ∙ c.if1.true)
+returns c = wanted_found _ _ _ _ _ c.before.before.before.before.loop.invariant (search rules) (search rules) (sym c.before.starts.ensures ∙ c.if1.true)
 
 add-i : tie.Need-overflow-add-i invariant-loop decreases-loop
 add-i c = search rules
@@ -44,10 +44,10 @@ loop-less : tie.Need-loop-smaller invariant-loop decreases-loop
 loop-less c = search rules
 
 loop-again : tie.Need-loop-preserved invariant-loop decreases-loop
-loop-again c = wanted-passed _ _ _ _ _ c.before.before.before.before.loop.invariant (search rules) (sym c.before.starts.ensures ∙ c.if1.false)
+loop-again c = wanted_passed _ _ _ _ _ c.before.before.before.before.loop.invariant (search rules) (sym c.before.starts.ensures ∙ c.if1.false)
 
 returns-2 : tie.Need-returns-2 invariant-loop decreases-loop
-returns-2 c = sought-never _ _ _ _ _ c.before.loop.invariant (wanted-nowhere _ _ _ c.loop-test.false)
+returns-2 c = sought_never _ _ _ _ _ c.before.loop.invariant (wanted_nowhere _ _ _ c.loop-test.false)
 
 pub end-behind-spec : {M : Type 1} → statement M
 end-behind-spec =

@@ -1,6 +1,6 @@
 -- `tape_markup::tokens::end_tag` meets its contract.
 -- Assumes nothing.
-use Rattle.tape_markup.proofs.Pieces.{close-none, close-over, close_other, close-step}
+use Rattle.tape_markup.proofs.Pieces.{close_none, close_over, close_other, close_step}
 use borrow.Author.Rules.{rules}
 use Rattle.tape_markup.proofs.tokens.end_tag.Statement.{statement}
 use Rattle.tape_markup.proofs.tokens.end_tag.Tie as tie
@@ -13,7 +13,7 @@ behind-name-requires c κs = search rules
 
 returns : tie.Need-returns
 returns c =
-    close-none c.before.before.before.args.text.now c.before.before.before.args.at _ _ c.before.behind-name.ensures.0
+    close_none c.before.before.before.args.text.now c.before.before.before.args.at _ _ c.before.behind-name.ensures.0
     c.if1.true
 
 behind-blanks-requires : tie.Need-behind-blanks-requires
@@ -21,7 +21,7 @@ behind-blanks-requires c κs = search rules
 
 returns-2 : tie.Need-returns-2
 returns-2 c =
-    close-over c.before.before.before.before.before.args.text.now c.before.before.before.before.before.args.at _ _
+    close_over c.before.before.before.before.before.args.text.now c.before.before.before.before.before.args.at _ _
     c.before.before.before.behind-name.ensures.0 _ c.before.before.if1.false c.before.behind-blanks.ensures.0
     (search rules)
 
@@ -39,7 +39,7 @@ add-t7 c = search rules
 
 returns-4 : tie.Need-returns-4
 returns-4 c =
-    close-step c.before.before.before.before.before.before.before.args.text.now c.before.before.before.before.before.before.before.args.at _ _
+    close_step c.before.before.before.before.before.before.before.args.text.now c.before.before.before.before.before.before.before.args.at _ _
     c.before.before.before.before.before.behind-name.ensures.0 _ c.before.before.before.before.if1.false
     c.before.before.before.behind-blanks.ensures.0 c.if3.false
 

@@ -6,7 +6,7 @@ use native.Mathlib.Omega.{arith}
 use lib.Dec.{lit<}
 use mir.Syntax.{w64}
 use mir.Val.{Fits}
-use Rattle.tape_markup.proofs.Pieces.{comment-fits, plain_fits, instruction-fits, declaration-fits, end-tag-fits, comment-step, plain-told, instruction-step, declaration-step, end-tag-told, start-tag-told}
+use Rattle.tape_markup.proofs.Pieces.{comment_fits, plain_fits, instruction_fits, declaration_fits, end_tag_fits, comment_step, plain_told, instruction_step, declaration_step, end_tag_told, start_tag_told}
 use borrow.Author.Rules.{rules}
 use Rattle.tape_markup.proofs.tokens.markup.Statement.{statement}
 use Rattle.tape_markup.proofs.tokens.markup.Tie as tie
@@ -52,7 +52,7 @@ end-behind-requires : tie.Need-end-behind-requires
 end-behind-requires c κs =
     let oo = c.before.before.before in
     let s = oo.before.before.before in (
-      comment-fits s.args.text.now s.args.at _
+      comment_fits s.args.text.now s.args.at _
           oo.Opening-of.ensures c.before.enum_told.given.1,
       lit< tt,
     )
@@ -83,7 +83,7 @@ end-behind-requires-2 : tie.Need-end-behind-requires-2
 end-behind-requires-2 c κs =
     let oo = c.before.before.before in
     let s = oo.before.before.before in (
-      instruction-fits s.args.text.now s.args.at _
+      instruction_fits s.args.text.now s.args.at _
           oo.Opening-of.ensures c.before.enum-told3.given.1,
       lit< tt,
     )
@@ -101,7 +101,7 @@ declaration-end-requires : tie.Need-declaration-end-requires
 declaration-end-requires c κs =
     let oo = c.before.before in
     let s = oo.before.before.before in
-    declaration-fits s.args.text.now s.args.at _
+    declaration_fits s.args.text.now s.args.at _
     oo.Opening-of.ensures c.enum-told4.given.1
 
 past-requires-3 : tie.Need-past-requires-3
@@ -114,7 +114,7 @@ end-tag-requires : tie.Need-end-tag-requires
 end-tag-requires c κs =
     let oo = c.before.before in
     let s = oo.before.before.before in
-    end-tag-fits s.args.text.now s.args.at _
+    end_tag_fits s.args.text.now s.args.at _
     oo.Opening-of.ensures c.enum-told5.given.1
 
 enum-told-6 : tie.Need-enum-told-6
@@ -128,7 +128,7 @@ returns c =
     let et = c.before.before.before in
     let oo = et.before.before in
     let s = oo.before.before.before in
-    comment-step s.args.text.now s.args.at _
+    comment_step s.args.text.now s.args.at _
     oo.Opening-of.ensures et.enum_told.given.1
     c.before.end-behind.result c.past.result c.before.end-behind.ensures c.past.ensures
 
@@ -136,7 +136,7 @@ returns-2 : tie.Need-returns-2
 returns-2 c =
     let oo = c.before.before.before in
     let s = oo.before.before.before in
-    plain-told s.args.text.now s.args.at _
+    plain_told s.args.text.now s.args.at _
     oo.Opening-of.ensures c.before.enum-told2.given.1 c.plain-bytes.result c.plain-bytes.ensures
 
 returns-3 : tie.Need-returns-3
@@ -144,7 +144,7 @@ returns-3 c =
     let et3 = c.before.before.before in
     let oo = et3.before.before in
     let s = oo.before.before.before in
-    instruction-step s.args.text.now s.args.at _
+    instruction_step s.args.text.now s.args.at _
     oo.Opening-of.ensures et3.enum-told3.given.1
     c.before.end-behind2.result c.past2.result c.before.end-behind2.ensures c.past2.ensures
 
@@ -153,7 +153,7 @@ returns-4 c =
     let et4 = c.before.before in
     let oo = et4.before.before in
     let s = oo.before.before.before in
-    declaration-step s.args.text.now s.args.at _
+    declaration_step s.args.text.now s.args.at _
     oo.Opening-of.ensures et4.enum-told4.given.1 c.before.declaration-end.result
     c.past3.result c.before.declaration-end.ensures c.past3.ensures
 
@@ -161,14 +161,14 @@ returns-5 : tie.Need-returns-5
 returns-5 c =
     let oo = c.before.before.before in
     let s = oo.before.before.before in
-    end-tag-told s.args.text.now s.args.at _
+    end_tag_told s.args.text.now s.args.at _
     oo.Opening-of.ensures c.before.enum-told5.given.1 c.end-tag.result c.end-tag.ensures
 
 returns-6 : tie.Need-returns-6
 returns-6 c =
     let oo = c.before.before.before in
     let s = oo.before.before.before in
-    start-tag-told s.args.text.now s.args.at _
+    start_tag_told s.args.text.now s.args.at _
     oo.Opening-of.ensures c.before.enum-told6.given.1 c.start-tag.result c.start-tag.ensures
 
 pub markup-spec : {M : Type 1} → statement M

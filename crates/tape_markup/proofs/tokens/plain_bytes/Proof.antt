@@ -1,6 +1,6 @@
 -- `tape_markup::tokens::plain_bytes` meets its contract: its `]]>` ends it.
 -- Assumes nothing.
-use Rattle.tape_markup.proofs.Pieces.{plain-never, plain-ends}
+use Rattle.tape_markup.proofs.Pieces.{plain_never, plain_ends}
 use borrow.Author.Rules.{rules}
 use Rattle.tape_markup.proofs.tokens.plain_bytes.Statement.{statement}
 use Rattle.tape_markup.proofs.tokens.plain_bytes.Tie as tie
@@ -22,12 +22,12 @@ enum_told c = search rules
 
 returns : tie.Need-returns
 returns c =
-    plain-ends c.before.before.before.before.before.before.args.text.now c.before.before.before.before.before.before.args.at _ _
+    plain_ends c.before.before.before.before.before.before.args.text.now c.before.before.before.before.before.before.args.at _ _
     (rw c.before.next.given.1 at c.before.before.before.end-behind.ensures)
 
 returns-2 : tie.Need-returns-2
 returns-2 c =
-    plain-never c.before.before.before.before.before.args.text.now c.before.before.before.before.before.args.at _
+    plain_never c.before.before.before.before.before.args.text.now c.before.before.before.before.before.args.at _
     (rw c.enum_told.given.1 at c.before.before.end-behind.ensures)
 
 pub plain-bytes-spec : {M : Type 1} → statement M

@@ -1,7 +1,7 @@
 -- `tape_markup::tokens::start_tag` meets its contract.
 -- Assumes nothing.
 use mathlib.Core.Path.{sym, ◌∙◌}
-use Rattle.tape_markup.proofs.Pieces.{start_none, start-never, alone-step, opens-step}
+use Rattle.tape_markup.proofs.Pieces.{start_none, start_never, alone_step, opens_step}
 use borrow.Author.Rules.{rules}
 use native.Mathlib.Omega.{arith}
 use Rattle.tape_markup.proofs.tokens.start_tag.Statement.{statement}
@@ -31,7 +31,7 @@ returns-2 : tie.Need-returns-2
 returns-2 c =
     let e1 = c.before.before.before in
     let s = e1.before.before.before in
-    start-never s.args.text.now s.args.at _ _
+    start_never s.args.text.now s.args.at _ _
     e1.before.behind-name.ensures.0 e1.if1.false (rw c.enum_told.given.1 at c.before.before.tag-end.ensures)
 
 is-alone-requires : tie.Need-is-alone-requires
@@ -41,7 +41,7 @@ returns-3 : tie.Need-returns-3
 returns-3 c =
     let bn = c.before.before.before.before.before.before.before in
     let s = bn.before.before in
-    alone-step s.args.text.now s.args.at _ _
+    alone_step s.args.text.now s.args.at _ _
     bn.behind-name.ensures.0 _ c.before.before.before.before.before.before.if1.false
     (rw c.before.before.before.end.given.1 at c.before.before.before.before.before.tag-end.ensures)
     (sym c.before.is-alone.ensures ∙ c.if2.true)
@@ -50,7 +50,7 @@ returns-4 : tie.Need-returns-4
 returns-4 c =
     let bn = c.before.before.before.before.before.before.before in
     let s = bn.before.before in
-    opens-step s.args.text.now s.args.at _ _
+    opens_step s.args.text.now s.args.at _ _
     bn.behind-name.ensures.0 _ c.before.before.before.before.before.before.if1.false
     (rw c.before.before.before.end.given.1 at c.before.before.before.before.before.tag-end.ensures)
     (sym c.before.is-alone.ensures ∙ c.if2.false)

@@ -5,7 +5,7 @@ use lib.ListN.{length}
 use Rattle.tape_markup.specs.Places.{tokens_at}
 use Rattle.tape_files.specs.Index.{extent_name}
 use Rattle.tape_files.specs.Values.{extent_of}
-use Rattle.tape_files.proofs.Bare.{ReadTo, read_none, read_more, read-over, read_less}
+use Rattle.tape_files.proofs.Bare.{ReadTo, read_none, read_more, read_over, read_less}
 use Rattle.tape_picks.specs.Private.{ranged_with}
 use Rattle.tape_files.proofs.Placing.{named_here, unnamed_here, left_here}
 use Rattle.tape_picks.proofs.Extents.{inside_place, extent_step, extents_read}
@@ -37,7 +37,7 @@ at-loop c = c.before.before.before.before.before.before
 
 returns : tie.Need-returns invariant-loop decreases-loop
 returns c = let i = c.before.before.before.before.before.loop.invariant in
-    let r = read-over (extent_step _) _ _ _ _ _ _ i _ (unnamed_here _ _ i.around.within _ _ (rw c.before.met.given.1 at c.before.before.before.next-named.ensures)) in
+    let r = read_over (extent_step _) _ _ _ _ _ _ i _ (unnamed_here _ _ i.around.within _ _ (rw c.before.met.given.1 at c.before.before.before.next-named.ensures)) in
     (r.0 ∙ extents_read _ _ _, r.1)
 
 enum-known-met-2 : tie.Need-enum-known-met-2 invariant-loop decreases-loop

@@ -6,7 +6,7 @@ use Rattle.tape_markup.specs.Places.{tokens_at}
 use Rattle.tape_files.specs.Index.{extent_info_name, extents_of}
 use Rattle.tape_files.specs.Elements.{inside}
 use Rattle.tape_picks.specs.Private.{ranged_from}
-use Rattle.tape_files.proofs.Bare.{ReadTo, read_none, read_more, read-over, read_less}
+use Rattle.tape_files.proofs.Bare.{ReadTo, read_none, read_more, read_over, read_less}
 use Rattle.tape_files.proofs.Placing.{named_here, unnamed_here}
 use Rattle.tape_picks.proofs.Extents.{info_step, file_read}
 use borrow.Author.Rules.{rules}
@@ -43,7 +43,7 @@ returns c =
     let al = c.before.before.before.before.before in
     let s = al.before.before.before in
     let i = al.loop.invariant in
-    let r = read-over (info_step _) _ _ _ _ _ _ i _ (unnamed_here _ _ i.around.within _ _ (rw c.before.met.given.1 at c.before.before.before.next-named.ensures)) in
+    let r = read_over (info_step _) _ _ _ _ _ _ i _ (unnamed_here _ _ i.around.within _ _ (rw c.before.met.given.1 at c.before.before.before.next-named.ensures)) in
     (r.0 ∙ file_read _ _ _ ∙ ap (λ f. ranged_from s.args.tape f (extents_of (inside s.args.text.now s.args.place))) al.before.no-file.ensures, r.1)
 
 enum-known-met-2 : tie.Need-enum-known-met-2 invariant-loop decreases-loop

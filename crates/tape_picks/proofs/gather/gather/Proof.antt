@@ -6,7 +6,7 @@ use native.Mathlib.Omega.{arith}
 use lib.ListN.{length}
 use borrow.Author.Tests.{not-true, not-false}
 use Rattle.tape_picks.specs.Private.{pick_in, walk_size}
-use Rattle.tape_picks.proofs.Gathering.{Gathering, gathering_none, gathering-more, gathering-bad, gathering-good, gathering-notes, met-high}
+use Rattle.tape_picks.proofs.Gathering.{Gathering, gathering_none, gathering_more, gathering_bad, gathering_good, gathering_notes, met_high}
 use borrow.Author.Rules.{rules}
 use Rattle.tape_picks.proofs.gather.gather.Statement.{statement}
 use Rattle.tape_picks.proofs.gather.gather.Tie as tie
@@ -72,7 +72,7 @@ returns c =
     let going = not-true _ meet.before.if1.true in
     let m = meet.meet.ensures g.own g.outer (g.at going) in
     record {
-      judged = gathering-bad _ _ _ _ _ _ (at-start-from-meet meet).requires.1.0 _ _ _ g going _ m (not-true _ c.if2.true);
+      judged = gathering_bad _ _ _ _ _ _ (at-start-from-meet meet).requires.1.0 _ _ _ g going _ m (not-true _ c.if2.true);
       notes = λ e. absurd (false≢true e);
     }
 
@@ -85,7 +85,7 @@ note-requires c κs =
     let going = not-true _ meet.before.if1.taken in
     let m = meet.meet.ensures g.own g.outer (g.at going) in
     let f = s.pre.1.1.0 in (
-      (s.pre.1.0.lines, met-high _ _ _ _ _ _ s.pre.1.0 _ _ _ g going _ m),
+      (s.pre.1.0.lines, met_high _ _ _ _ _ _ s.pre.1.0 _ _ _ g going _ m),
       (s.pre.1.0.rows, (omega (arith, i.0, f.0), (omega (arith, i.1, f.1.0), omega (arith, i.2, f.1.1)))),
     )
 
@@ -108,7 +108,7 @@ loop-again c =
       k.0 ∙ i.0,
       k.1.0 ∙ i.1,
       k.1.1.0 ∙ i.2,
-      gathering-more _ _ _ _ _ _ (at-start-from-meet meet).pre.1.0 _ _ _ g going _ m (not-false _ (at-if2 n).if2.left) _ n.note.ensures,
+      gathering_more _ _ _ _ _ _ (at-start-from-meet meet).pre.1.0 _ _ _ g going _ m (not-false _ (at-if2 n).if2.left) _ n.note.ensures,
     )
 
 same-length-4 : tie.Need-same-length-4 invariant-loop decreases-loop
@@ -126,8 +126,8 @@ returns-2 c =
     let g = c.before.before.loop.invariant.3 in
     let over = not-false _ c.if1.false in
     record {
-      judged = gathering-good _ _ _ _ _ _ s.pre.1.0 _ _ _ g over;
-      notes = λ e. gathering-notes _ _ _ _ _ _ s.pre.1.0 _ _ _ g over;
+      judged = gathering_good _ _ _ _ _ _ s.pre.1.0 _ _ _ g over;
+      notes = λ e. gathering_notes _ _ _ _ _ _ s.pre.1.0 _ _ _ g over;
     }
 
 pub gather-spec : {M : Type 1} → statement M

@@ -2,7 +2,7 @@
 -- Assumes nothing.
 use mathlib.Core.Path.{sym, ◌∙◌}
 use borrow.Author.Tests.{not-true, not-false}
-use Rattle.tape_picks.proofs.Searching.{zeros_fit, zeros_none, kept_fit, search-bad, search-good}
+use Rattle.tape_picks.proofs.Searching.{zeros_fit, zeros_none, kept_fit, search_bad, search_good}
 use borrow.Author.Rules.{rules}
 use Rattle.tape_picks.proofs.gather.search.Statement.{statement}
 use Rattle.tape_picks.proofs.gather.search.Tie as tie
@@ -41,7 +41,7 @@ gather-requires c κs =
     (s.pre.0, (s.pre.1.0, (zeros_fit 1024 _ s.pre.1.1.1, zeros_none 1024 _ s.args.order.now)))
 
 returns : tie.Need-returns
-returns c = search-bad _ _ _ _ _ _ _ _ _ (sym (not-true _ c.if1.true) ∙ c.before.before.before.before.gather.ensures.judged)
+returns c = search_bad _ _ _ _ _ _ _ _ _ (sym (not-true _ c.if1.true) ∙ c.before.before.before.before.gather.ensures.judged)
 
 slice-aggregate-hand-over : tie.Need-slice-aggregate-hand-over
 slice-aggregate-hand-over c = search rules
@@ -85,7 +85,7 @@ returns-2 c =
     let k = r.gather.auto.1.1.1.1.1.1.1 in
     let l = r.gather.new.1.1.1.1.1.1.1 in
     let b = s.pre.1.1.1 in
-    search-good _ _ _ _ _ _ _ _ _ _ s.pre.1.0 l.0 l.1.0 l.1.1.0 (kept_fit 1024 _ l.0 k.0 b, (kept_fit 1024 _ l.1.0 k.1.0 b, kept_fit 1024 _ l.1.1.0 k.1.1.0 b))
+    search_good _ _ _ _ _ _ _ _ _ _ s.pre.1.0 l.0 l.1.0 l.1.1.0 (kept_fit 1024 _ l.0 k.0 b, (kept_fit 1024 _ l.1.0 k.1.0 b, kept_fit 1024 _ l.1.1.0 k.1.1.0 b))
     (rw (not-false r.gather.result ho.before.before.before.if1.false) at r.gather.ensures) _ _ _ ho.hand-over.ensures ho2.hand-over2.ensures
     c.before.before.hand-over3.ensures
 

@@ -6,7 +6,7 @@ use Prim.Native.Nat.{◌-◌}
 use mathlib.Core.Path.{◌≡◌, refl}
 use lib.ListN.{length}
 use Rattle.tape_picks.specs.Private.{pick_in}
-use Rattle.tape_picks.proofs.Noting.{set_long, Noting, noting-none, noting-more, noting-done}
+use Rattle.tape_picks.proofs.Noting.{set_long, Noting, noting_none, noting_more, noting_done}
 use Rattle.tape_picks.proofs.notes.note.Statement.{statement}
 use Rattle.tape_picks.proofs.notes.note.Tie as tie
 
@@ -21,7 +21,7 @@ abbrev decreases-loop : tie.decreases-loop
 decreases-loop from to order count span states₀ starts₀ ends₀ long high k₀ states starts ends k = high - k
 
 loop-holds : tie.Need-loop-init invariant-loop decreases-loop
-loop-holds c = (refl, refl, refl, noting-none _ _ _ _ _ _ _ _ _)
+loop-holds c = (refl, refl, refl, noting_none _ _ _ _ _ _ _ _ _)
 
 mul-line : tie.Need-overflow-mul-line invariant-loop decreases-loop
 mul-line c = search rules
@@ -249,7 +249,7 @@ loop-again c =
       set_long at.loop.states _ _ _ i.0,
       set_long at.loop.starts _ _ _ i.1,
       set_long at.loop.ends _ _ _ i.2,
-      noting-more _ _ _ _ _ _ _ _ s.pre.0.0 _ at.loop.states at.loop.starts at.loop.ends
+      noting_more _ _ _ _ _ _ _ _ s.pre.0.0 _ at.loop.states at.loop.starts at.loop.ends
           (omega (arith, i.0, s.pre.1.1.0), (omega (arith, i.1, s.pre.1.1.1.0), omega (arith, i.2, s.pre.1.1.1.1))) _ i.3 il.loop-test.taken s.pre.0.1
           _ c.before.before.before.before.Ends-there.ensures _ c.noted.ensures,
     )
@@ -264,7 +264,7 @@ same-length-3 : tie.Need-same-length-3 invariant-loop decreases-loop
 same-length-3 c = c.before.loop.invariant.2
 
 returns : tie.Need-returns invariant-loop decreases-loop
-returns c = noting-done _ _ _ _ _ _ _ _ _ _ _ c.before.loop.invariant.3 c.loop-test.false
+returns c = noting_done _ _ _ _ _ _ _ _ _ _ _ c.before.loop.invariant.3 c.loop-test.false
 
 pub note-spec : {M : Type 1} → statement M
 note-spec =

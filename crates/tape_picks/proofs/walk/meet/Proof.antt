@@ -1,9 +1,9 @@
 -- `tape_picks::walk::meet` meets its contract: whatever the paths so far, the files left are those left before, but for the file met.
 -- Assumes nothing.
 use mathlib.Core.Path.{refl}
-use Rattle.tape_files.proofs.Placing.{left_here, element-here, nothing-here}
-use Rattle.tape_picks.proofs.Walking.{deep-enough, met-left, met-entered, met-read, met-moved}
-use Rattle.tape_picks.proofs.Entering.{below-held, named-held}
+use Rattle.tape_files.proofs.Placing.{left_here, element_here, nothing_here}
+use Rattle.tape_picks.proofs.Walking.{deep_enough, met_left, met_entered, met_read, met_moved}
+use Rattle.tape_picks.proofs.Entering.{below_held, named_held}
 use borrow.Author.Rules.{rules}
 use Rattle.tape_picks.proofs.walk.meet.Statement.{statement}
 use Rattle.tape_picks.proofs.walk.meet.Tie as tie
@@ -49,9 +49,9 @@ entered-requires : tie.Need-entered-requires
 entered-requires c κs =
     let s = at-start c.before.before.before in
     let w = s.pre.1.1.at in
-    let m = element-here _ _ w.within _ _ _
+    let m = element_here _ _ w.within _ _ _
     (rw c.before.before.before.before.before.child2.given.1 at c.before.before.before.before.before.before.before.next-child.ensures) in
-    deep-enough _ _ _ s.args.tape _ s.pre.1.0 _ _ w _ _ _ m
+    deep_enough _ _ _ s.args.tape _ s.pre.1.0 _ _ w _ _ _ m
 
 passed-requires-2 : tie.Need-passed-requires-2
 passed-requires-2 c κs = search rules
@@ -61,7 +61,7 @@ enum-told-2 c = search rules
 
 met-file-requires : tie.Need-met-file-requires
 met-file-requires c κs = let w = (at-start c.before.before).requires.1.1.at in
-    let m = element-here _ _ w.within _ _ _ (rw c.before.before.before.before.child2.given.1 at c.before.before.before.before.before.before.next-child.ensures) in m.within
+    let m = element_here _ _ w.within _ _ _ (rw c.before.before.before.before.child2.given.1 at c.before.before.before.before.before.before.next-child.ensures) in m.within
 
 enum-told-3 : tie.Need-enum-told-3
 enum-told-3 c = search rules
@@ -77,35 +77,35 @@ passed-requires-3 c κs = search rules
 
 returns : tie.Need-returns
 returns c = λ own outer w.
-    let n = nothing-here _ _ w.within _ (rw c.before.before.before.child.given.1 at c.before.before.before.before.before.next-child.ensures) in
-    rw (c.passed.ensures, c.before.left.ensures) (met-left _ _ _ _ _ (at-start-from-passed c).requires.1.0 own outer w _ n)
+    let n = nothing_here _ _ w.within _ (rw c.before.before.before.child.given.1 at c.before.before.before.before.before.next-child.ensures) in
+    rw (c.passed.ensures, c.before.left.ensures) (met_left _ _ _ _ _ (at-start-from-passed c).requires.1.0 own outer w _ n)
 
 returns-2 : tie.Need-returns-2
 returns-2 c =
     let c2 = c.before.before.before.before.before.before.before in
     λ own outer w.
     let s = at-start c.before.before.before.before.before in
-    let m = element-here _ _ w.within _ _ _ (rw c2.child2.given.1 at c2.before.before.next-child.ensures) in
+    let m = element_here _ _ w.within _ _ _ (rw c2.child2.given.1 at c2.before.before.next-child.ensures) in
     let u = rw c.before.before.before.enum_told.given.1 at c.before.before.before.before.before.role-at.ensures in
     rw (c.passed2.ensures, c.before.entered.ensures)
-    (met-entered _ _ _ _ _ s.pre.1.0 own outer w _ _ _ m u _ (below-held _ _ _ _ _ _ s.pre.0 own outer _ w _ refl _ m.within _ c.before.before.below.ensures))
+    (met_entered _ _ _ _ _ s.pre.1.0 own outer w _ _ _ m u _ (below_held _ _ _ _ _ _ s.pre.0 own outer _ w _ refl _ m.within _ c.before.before.below.ensures))
 
 returns-3 : tie.Need-returns-3
 returns-3 c = λ own outer w.
     let s = at-start c.before.before.before in
-    let m = element-here _ _ w.within _ _ _
+    let m = element_here _ _ w.within _ _ _
     (rw c.before.before.before.before.before.child2.given.1 at c.before.before.before.before.before.before.before.next-child.ensures) in
     let u = rw c.before.enum-told2.given.1 at c.before.before.before.role-at.ensures in
-    met-read _ _ _ _ _ s.pre.1.0 own outer w _ _ _ m u _ (named-held _ _ _ _ _ _ s.pre.0 own outer _ w _ refl _ m.within) _ c.met-file.ensures
+    met_read _ _ _ _ _ s.pre.1.0 own outer w _ _ _ m u _ (named_held _ _ _ _ _ _ s.pre.0 own outer _ w _ refl _ m.within) _ c.met-file.ensures
 
 returns-4 : tie.Need-returns-4
 returns-4 c =
     let c2 = c.before.before.before.before.before.before.before in
     λ own outer w.
-    let m = element-here _ _ w.within _ _ _ (rw c2.child2.given.1 at c2.before.before.next-child.ensures) in
+    let m = element_here _ _ w.within _ _ _ (rw c2.child2.given.1 at c2.before.before.next-child.ensures) in
     let u = rw c.before.before.before.enum-told3.given.1 at c.before.before.before.before.before.role-at.ensures in
     rw (c.passed3.ensures, c.before.moved.ensures)
-    (met-moved _ _ _ _ _ (at-start c.before.before.before.before.before).requires.1.0 own outer w _ _ _ m _
+    (met_moved _ _ _ _ _ (at-start c.before.before.before.before.before).requires.1.0 own outer w _ _ _ m _
     (left_here _ _ m.within _ c.before.before.leave.ensures) u)
 
 pub meet-spec : {M : Type 1} → statement M

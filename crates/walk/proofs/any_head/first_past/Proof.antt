@@ -5,7 +5,7 @@ use Prim.Native.Nat.{◌-◌}
 use lib.ListN.{length, get_or}
 use lib.Dec.{ltb}
 use borrow.Author.Tests.{lt-ltb, le-ltb}
-use Rattle.walk.proofs.OwnStop.{Passing, passing-start, found_first, past-here, passing-on, none-past}
+use Rattle.walk.proofs.OwnStop.{Passing, passing_start, found_first, past_here, passing_on, none_past}
 use Rattle.walk.proofs.any_head.first_past.Statement.{statement}
 use Rattle.walk.proofs.any_head.first_past.Tie as tie
 
@@ -16,7 +16,7 @@ abbrev decreases-loop : tie.decreases-loop
 decreases-loop froms own found i₀ i = length froms - i
 
 loop-holds : tie.Need-loop-init invariant-loop decreases-loop
-loop-holds c = passing-start _ _ _
+loop-holds c = passing_start _ _ _
 
 add-place : tie.Need-overflow-add-place invariant-loop decreases-loop
 add-place c = search rules
@@ -33,7 +33,7 @@ shared-slice-read-if2 c = search rules
 returns-2 : tie.Need-returns-2 invariant-loop decreases-loop
 returns-2 c =
     let e = c.before.before in
-    past-here _ _ _ _ e.before.before.loop.invariant e.if1.false (search rules) (lt-ltb _ _ c.if2.true)
+    past_here _ _ _ _ e.before.before.loop.invariant e.if1.false (search rules) (lt-ltb _ _ c.if2.true)
 
 add-i : tie.Need-overflow-add-i invariant-loop decreases-loop
 add-i c = search rules
@@ -44,10 +44,10 @@ loop-less c = search rules
 loop-again : tie.Need-loop-preserved invariant-loop decreases-loop
 loop-again c =
     let e = c.before.before in
-    passing-on _ _ _ _ e.before.before.loop.invariant e.if1.false (search rules) (le-ltb _ _ c.if2.false)
+    passing_on _ _ _ _ e.before.before.loop.invariant e.if1.false (search rules) (le-ltb _ _ c.if2.false)
 
 returns-3 : tie.Need-returns-3 invariant-loop decreases-loop
-returns-3 c = none-past _ _ _ _ c.before.loop.invariant c.loop-test.false
+returns-3 c = none_past _ _ _ _ c.before.loop.invariant c.loop-test.false
 
 pub first-past-spec : {M : Type 1} → statement M
 first-past-spec =

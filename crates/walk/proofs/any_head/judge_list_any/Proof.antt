@@ -8,8 +8,8 @@ use lib.Dec.{ltb}
 use Rattle.refusals.specs.declared.Refusal.TheVariants.{BadEntry}
 use Rattle.refusals.specs.Refusals.{refuse_at, first_where}
 use Rattle.runs.specs.Private.{earlier_of}
-use Rattle.runs.proofs.Stops.{wants-agree}
-use Rattle.walk.proofs.AnyHead.{own-joined, uneven-same, any-list}
+use Rattle.runs.proofs.Stops.{wants_agree}
+use Rattle.walk.proofs.AnyHead.{own_joined, uneven_same, any_list}
 use Rattle.walk.proofs.any_head.judge_list_any.Statement.{statement}
 use Rattle.walk.proofs.any_head.judge_list_any.Tie as tie
 
@@ -23,7 +23,7 @@ at-start c = c.before.before.before.before.before.before
 returns : tie.Need-returns
 returns c =
     let a = (at-start c.before).args in
-    λ l cs e up. c.before.judge-list.ensures a.starts.now l cs e ∙ uneven-same a.head _ a.froms.now a.tos.now c.if1.true
+    λ l cs e up. c.before.judge-list.ensures a.starts.now l cs e ∙ uneven_same a.head _ a.froms.now a.tos.now c.if1.true
 
 own-stop-requires : tie.Need-own-stop-requires
 own-stop-requires c κs = (at-start c.before).requires
@@ -44,8 +44,8 @@ returns-2 c =
     c.refuse-at.ensures
     ∙ ap (λ p. refuse_at p BadEntry)
     (f.first_past.ensures ∙ ap (λ v. earlier_of v.place (first_where (λ i. ltb o.own-stop.result (get_or a.froms.now i 0)) (length a.froms.now))) (j.judge-list.ensures a.starts.now l cs e))
-    ∙ any-list a.head _ a.froms.now a.tos.now o.before.if1.false o.own-stop.result
-    (o.own-stop.ensures l cs e ∙ sym (own-joined a.head _ (wants-agree a.starts.now l a.aggregates.now a.numbers.now cs))) up
+    ∙ any_list a.head _ a.froms.now a.tos.now o.before.if1.false o.own-stop.result
+    (o.own-stop.ensures l cs e ∙ sym (own_joined a.head _ (wants_agree a.starts.now l a.aggregates.now a.numbers.now cs))) up
     (λ i h. omega (arith, j.before.before.shared-slice-known4.given i))
 
 pub judge-list-any-spec : {M : Type 1} → statement M

@@ -6,7 +6,7 @@ use mathlib.Core.Path.{◌≡◌}
 use native.Mathlib.Omega.{arith}
 use lib.ListN.{length, get_or}
 use Rattle.runs.proofs.Members.{first_below}
-use Rattle.walk.proofs.OwnStop.{Looking, looking-start, own-here, looking-on, own-nowhere}
+use Rattle.walk.proofs.OwnStop.{Looking, looking_start, own_here, looking_on, own_nowhere}
 use Rattle.walk.proofs.any_head.own_stop.Statement.{statement}
 use Rattle.walk.proofs.any_head.own_stop.Tie as tie
 
@@ -17,7 +17,7 @@ abbrev decreases-loop : tie.decreases-loop
 decreases-loop starts aggregates numbers head i₀ i = length numbers - i
 
 loop-holds : tie.Need-loop-init invariant-loop decreases-loop
-loop-holds c = looking-start _ _ _ _
+loop-holds c = looking_start _ _ _ _
 
 mul-file : tie.Need-overflow-mul-file invariant-loop decreases-loop
 mul-file c = search rules
@@ -51,7 +51,7 @@ returns c =
     let t = c.before in
     let l = t.before.before.before.before in
     rw c.first_member.ensures
-    (own-here _ _ _ _ _ l.loop.invariant (search rules) ((at-start l).requires l.loop.i (search rules)).least (omega (arith, t.before.extent-start.ensures, t.if1.true)))
+    (own_here _ _ _ _ _ l.loop.invariant (search rules) ((at-start l).requires l.loop.i (search rules)).least (omega (arith, t.before.extent-start.ensures, t.if1.true)))
 
 add-i : tie.Need-overflow-add-i invariant-loop decreases-loop
 add-i c = search rules
@@ -62,10 +62,10 @@ loop-less c = search rules
 loop-again : tie.Need-loop-preserved invariant-loop decreases-loop
 loop-again c =
     let l = c.before.before.before.before in
-    looking-on _ _ _ _ _ l.loop.invariant (search rules) (omega (arith, c.before.extent-start.ensures, c.if1.false))
+    looking_on _ _ _ _ _ l.loop.invariant (search rules) (omega (arith, c.before.extent-start.ensures, c.if1.false))
 
 returns-2 : tie.Need-returns-2 invariant-loop decreases-loop
-returns-2 c = λ l cs e. own-nowhere _ _ _ _ _ c.before.loop.invariant c.loop-test.false l cs e
+returns-2 c = λ l cs e. own_nowhere _ _ _ _ _ c.before.loop.invariant c.loop-test.false l cs e
 
 pub own-stop-spec : {M : Type 1} → statement M
 own-stop-spec =

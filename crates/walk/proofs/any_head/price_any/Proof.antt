@@ -14,8 +14,8 @@ use Rattle.runs.proofs.Stops.{run_sound}
 use Rattle.runs.proofs.AnyHead.{GoodAnyRun, judge_any_lem, accepted_any}
 use Rattle.walk.specs.Price.{short_read_rows}
 use Rattle.walk.specs.Rows.{ReadRows, read_rows}
-use Rattle.walk.proofs.AnyHead.{priceable, any-good, any-not-past}
-use Rattle.walk.proofs.Priced.{Parts, anyParts, price-any-answers, run_refused, run-accepts, list_refused_lem, list_accepts, rows-refused, rows_long, all-accepted}
+use Rattle.walk.proofs.AnyHead.{priceable, any_good, any_not_past}
+use Rattle.walk.proofs.Priced.{Parts, anyParts, price_any_answers, run_refused, run_accepts, list_refused_lem, list_accepts, rows_refused_lem, rows_long, all_accepted}
 use Rattle.walk.proofs.any_head.price_any.Statement.{statement}
 use Rattle.walk.proofs.any_head.price_any.Tie as tie
 
@@ -53,7 +53,7 @@ returns : tie.Need-returns
 returns c =
     let j = c.before.before.before in
     let s = at-start j in
-    price-any-answers (run s) s.args.froms.now s.args.tos.now (lent s) _ _
+    price_any_answers (run s) s.args.froms.now s.args.tos.now (lent s) _ _
     (run_refused (parts s) _ _ (judged j) c.before.before.refused.ensures c.before.if1.true _ c.refuse.ensures)
 
 -- Past the first check the run is good.
@@ -61,7 +61,7 @@ abbrev start : tie.Else1 → tie.Start
 start e = at-start e.before.before
 
 good_run : (e : tie.Else1) → GoodAnyRun (run (start e))
-good_run e = accepted_any (run (start e)) (run-accepts (parts (start e)) _ _ (judged e.before.before) e.before.refused.ensures e.if1.false)
+good_run e = accepted_any (run (start e)) (run_accepts (parts (start e)) _ _ (judged e.before.before) e.before.refused.ensures e.if1.false)
 
 judge-list-any-requires : tie.Need-judge-list-any-requires
 judge-list-any-requires c κs = let a = (start c).args in wants_named a.starts.now a.numbers.now a.counts.now (good_run c).run.wants
@@ -84,7 +84,7 @@ returns-2 c =
     let l = c.before.before.before in
     let e = l.before in
     let s = start e in
-    price-any-answers (run s) s.args.froms.now s.args.tos.now (lent s) _ _
+    price_any_answers (run s) s.args.froms.now s.args.tos.now (lent s) _ _
     (list_refused_lem (parts s) _ _ (judged e.before.before) e.before.refused.ensures
     _ _ (list-is l) c.before.before.refused2.ensures e.if1.false c.before.if2.true _ c.refuse2.ensures)
 
@@ -112,8 +112,8 @@ returns-3 c =
     let l = d.before.before in
     let e = l.before in
     let s = start e in
-    price-any-answers (run s) s.args.froms.now s.args.tos.now (lent s) _ _
-    (rows-refused (parts s) _ _ (judged e.before.before) e.before.refused.ensures
+    price_any_answers (run s) s.args.froms.now s.args.tos.now (lent s) _ _
+    (rows_refused_lem (parts s) _ _ (judged e.before.before) e.before.refused.ensures
     _ _ (list-is l) d.before.refused2.ensures _ _ (rows_are x) c.before.before.refused3.ensures e.if1.false d.if2.false c.before.if3.true _ c.refuse3.ensures)
 
 -- Past the second check the list is accepted.
@@ -133,8 +133,8 @@ priced-requires c κs =
     let e = l.before in
     let s = start e in (
       priceable (run s) (good_run e) s.args.froms.now s.args.tos.now
-          (any-good s.args.head (stops_of (run s)) s.args.froms.now s.args.tos.now (list-accepted d))
-          (any-not-past s.args.head (stops_of (run s)) s.args.froms.now s.args.tos.now (list-accepted d)),
+          (any_good s.args.head (stops_of (run s)) s.args.froms.now s.args.tos.now (list-accepted d))
+          (any_not_past s.args.head (stops_of (run s)) s.args.froms.now s.args.tos.now (list-accepted d)),
       rows_long (parts s) _ _ (judged e.before.before) e.before.refused.ensures
           _ _ (list-is l) d.before.refused2.ensures _ _ (rows_are x) o.before.refused3.ensures o.if3.false,
     )
@@ -154,8 +154,8 @@ returns-4 c =
     let l = d.before.before in
     let e = l.before in
     let s = start e in
-    price-any-answers (run s) s.args.froms.now s.args.tos.now (lent s) _ _
-    (all-accepted (parts s) _ _ (judged e.before.before) e.before.refused.ensures
+    price_any_answers (run s) s.args.froms.now s.args.tos.now (lent s) _ _
+    (all_accepted (parts s) _ _ (judged e.before.before) e.before.refused.ensures
     _ _ (list-is l) d.before.refused2.ensures _ _ (rows_are x) o.before.refused3.ensures e.if1.false d.if2.false o.if3.false
     _ _ p.priced.ensures.0 p.priced.ensures.1)
 

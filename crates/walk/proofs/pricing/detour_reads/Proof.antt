@@ -9,7 +9,7 @@ use Rattle.runs.specs.Run.{first_file}
 use Rattle.walk.specs.Private.{read_by_number}
 use Rattle.runs.proofs.Members.{first_below}
 use Rattle.runs.proofs.Stops.{first_file_lem}
-use Rattle.walk.proofs.Between.{Searching, search-start, search-on, found_here, found_none}
+use Rattle.walk.proofs.Between.{Searching, search_start, search_on, found_here, found_none}
 use Rattle.walk.proofs.pricing.detour_reads.Statement.{statement}
 use Rattle.walk.proofs.pricing.detour_reads.Tie as tie
 
@@ -35,7 +35,7 @@ add-first : tie.Need-overflow-add-first invariant-loop decreases-loop
 add-first c = omega (arith, c.first_member.ensures, first_below c.before.before.before.before.args.aggregates.now (c.before.before.before.before.args.file - 1))
 
 loop-holds : tie.Need-loop-init invariant-loop decreases-loop
-loop-holds c = search-start _ _ _
+loop-holds c = search_start _ _ _
 
 mul-lie-between : tie.Need-overflow-mul-lie-between invariant-loop decreases-loop
 mul-lie-between c = search rules
@@ -72,7 +72,7 @@ loop-again : tie.Need-loop-preserved invariant-loop decreases-loop
 loop-again c =
     let b = c.before in
     let l = b.before.before.before in
-    search-on _ _ _ _ l.before.loop.invariant l.before.before.before.before.before.before.requires.1 l.loop-test.true _ b.lie-between.ensures c.if1.false
+    search_on _ _ _ _ l.before.loop.invariant l.before.before.before.before.before.before.requires.1 l.loop-test.true _ b.lie-between.ensures c.if1.false
 
 returns-2 : tie.Need-returns-2 invariant-loop decreases-loop
 returns-2 c =

@@ -1,7 +1,7 @@
 -- `walk::pricing::fill_reads` meets its contract: what is filled and added so far, with what is left, is the whole.
 -- Assumes nothing.
 use native.Mathlib.Omega.{arith}
-use Rattle.walk.proofs.Filling.{filling_start, filled-one, filled-times, filled-legs, filled-sum, product-fits, sum_fits}
+use Rattle.walk.proofs.Filling.{filling_start, filled_one, filled_times, filled_legs, filled_sum, product_fits, sum_fits}
 use borrow.Author.Rules.{rules}
 use Prim.Native.Nat.{◌-◌}
 use lib.ListN.{length}
@@ -68,7 +68,7 @@ mul-sum-2 c =
     let t = c.before.before in
     let n = t.before.before in
     let s = at-start n.before in
-    record { fits = product-fits _ _ _ _ _ s.pre.1.0.0 _ _ _ _ _ _ _ _ _ n.before.loop.invariant s.pre.0.within n.loop-test.true _ t.Read-of.ensures s.pre.1.0.1 }
+    record { fits = product_fits _ _ _ _ _ s.pre.1.0.0 _ _ _ _ _ _ _ _ _ n.before.loop.invariant s.pre.0.within n.loop-test.true _ t.Read-of.ensures s.pre.1.0.1 }
 
 add-sum : tie.Need-overflow-add-sum invariant-loop decreases-loop
 add-sum c =
@@ -89,7 +89,7 @@ loop-again c =
     let n = t.before.before in
     let s = at-start n.before in
     let p = n.before.loop.invariant in
-    filled-one _ _ _ _ _ s.pre.1.0.0 _ _ _ _ _ _ _ _ _ p s.pre.0.within n.loop-test.true _ t.Read-of.ensures
+    filled_one _ _ _ _ _ s.pre.1.0.0 _ _ _ _ _ _ _ _ _ p s.pre.0.within n.loop-test.true _ t.Read-of.ensures
     (omega (arith, s.pre.1.1.0, p.timed.same, n.loop-test.true)) (omega (arith, s.pre.1.1.1, p.numbered.same, n.loop-test.true))
 
 same_length : tie.Need-same-length invariant-loop decreases-loop
@@ -102,8 +102,8 @@ returns : tie.Need-returns invariant-loop decreases-loop
 returns c =
     let s = at-start c.before in
     let p = c.before.loop.invariant in (
-      filled-sum _ _ _ _ _ s.pre.1.0.0 _ _ _ _ _ _ _ _ _ p c.loop-test.false,
-      (filled-times _ _ _ _ _ s.pre.1.0.0 _ _ _ _ _ _ _ _ _ p c.loop-test.false, filled-legs _ _ _ _ _ s.pre.1.0.0 _ _ _ _ _ _ _ _ _ p c.loop-test.false),
+      filled_sum _ _ _ _ _ s.pre.1.0.0 _ _ _ _ _ _ _ _ _ p c.loop-test.false,
+      (filled_times _ _ _ _ _ s.pre.1.0.0 _ _ _ _ _ _ _ _ _ p c.loop-test.false, filled_legs _ _ _ _ _ s.pre.1.0.0 _ _ _ _ _ _ _ _ _ p c.loop-test.false),
     )
 
 pub fill-reads-spec : {M : Type 1} → statement M

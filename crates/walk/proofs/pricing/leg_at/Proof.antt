@@ -1,7 +1,7 @@
 -- `walk::pricing::leg_at` meets its contract: an entry of the list, or the last sweep behind them.
 -- Assumes nothing.
 use mathlib.Core.Path.{◌∙◌}
-use Rattle.walk.proofs.Legs.{leg-of-detour, leg-of-sweep}
+use Rattle.walk.proofs.Legs.{leg_of_detour, leg_of_sweep}
 use borrow.Author.Rules.{rules}
 use Rattle.walk.proofs.pricing.leg_at.Statement.{statement}
 use Rattle.walk.proofs.pricing.leg_at.Tie as tie
@@ -34,17 +34,17 @@ detour-leg-requires c κs =
 returns : tie.Need-returns
 returns c =
     let s = at-start-from-shared-slice-known8 c.before in
-    c.detour-leg.ensures ∙ leg-of-detour s.args.head _ _ _ s.args.numbers.now _ _ s.args.reach s.pre.0.list.even _ (search rules)
+    c.detour-leg.ensures ∙ leg_of_detour s.args.head _ _ _ s.args.numbers.now _ _ s.args.reach s.pre.0.list.even _ (search rules)
 
 sweep-leg-requires : tie.Need-sweep-leg-requires
 sweep-leg-requires c κs =
     let s = at-start c in
-    (s.pre.0.wants, (leg-of-sweep s.args.head _ _ _ _ _ _ _ s.pre.0.list.even _ c.if1.false s.pre.1).0)
+    (s.pre.0.wants, (leg_of_sweep s.args.head _ _ _ _ _ _ _ s.pre.0.list.even _ c.if1.false s.pre.1).0)
 
 returns-2 : tie.Need-returns-2
 returns-2 c =
     let s = at-start c.before in
-    c.sweep-leg.ensures ∙ (leg-of-sweep s.args.head _ _ _ _ _ _ _ s.pre.0.list.even _ c.before.if1.false s.pre.1).1
+    c.sweep-leg.ensures ∙ (leg_of_sweep s.args.head _ _ _ _ _ _ _ s.pre.0.list.even _ c.before.if1.false s.pre.1).1
 
 pub leg-at-spec : {M : Type 1} → statement M
 leg-at-spec =

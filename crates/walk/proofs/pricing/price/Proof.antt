@@ -11,8 +11,8 @@ use Rattle.runs.proofs.Judged.{GoodRun, accepted_run}
 use Rattle.walk.specs.Price.{short_read_rows}
 use Rattle.walk.specs.Rows.{ReadRows, read_rows}
 use Rattle.walk.proofs.Walks.{GoodList, accepted_list}
-use Rattle.walk.proofs.AnyHead.{run-priceable, priced-same, rows_same}
-use Rattle.walk.proofs.Priced.{Parts, priceParts, price-answers, run_refused, run-accepts, list_refused_lem, list_accepts, rows-refused, rows_long, all-accepted}
+use Rattle.walk.proofs.AnyHead.{run_priceable, priced_same, rows_same}
+use Rattle.walk.proofs.Priced.{Parts, priceParts, price_answers, run_refused, run_accepts, list_refused_lem, list_accepts, rows_refused_lem, rows_long, all_accepted}
 use Rattle.walk.proofs.pricing.price.Statement.{statement}
 use Rattle.walk.proofs.pricing.price.Tie as tie
 
@@ -43,7 +43,7 @@ returns : tie.Need-returns
 returns c =
     let j = c.before.before.before in
     let s = at-start j in
-    price-answers (run s) s.args.froms.now s.args.tos.now (lent s) _ _
+    price_answers (run s) s.args.froms.now s.args.tos.now (lent s) _ _
     (run_refused (parts s) _ _ j.judge.ensures c.before.before.refused.ensures c.before.if1.true _ c.refuse.ensures)
 
 judge-list-requires : tie.Need-judge-list-requires
@@ -60,7 +60,7 @@ abbrev start : tie.Else1 → tie.Start
 start e = at-start e.before.before
 
 good_run : (e : tie.Else1) → GoodRun (run (start e))
-good_run e = accepted_run (run (start e)) (run-accepts (parts (start e)) _ _ e.before.before.judge.ensures e.before.refused.ensures e.if1.false)
+good_run e = accepted_run (run (start e)) (run_accepts (parts (start e)) _ _ e.before.before.judge.ensures e.before.refused.ensures e.if1.false)
 
 list-is : (c : tie.After-judge-list) → let s = start c.before in c.judge-list.result ≡ list_verdict (stops_of (run s)) s.args.froms.now s.args.tos.now
 list-is c =
@@ -72,7 +72,7 @@ returns-2 c =
     let l = c.before.before.before in
     let e = l.before in
     let s = start e in
-    price-answers (run s) s.args.froms.now s.args.tos.now (lent s) _ _
+    price_answers (run s) s.args.froms.now s.args.tos.now (lent s) _ _
     (list_refused_lem (parts s) _ _ e.before.before.judge.ensures e.before.refused.ensures
     _ _ (list-is l) c.before.before.refused2.ensures e.if1.false c.before.if2.true _ c.refuse2.ensures)
 
@@ -100,8 +100,8 @@ returns-3 c =
     let l = d.before.before in
     let e = l.before in
     let s = start e in
-    price-answers (run s) s.args.froms.now s.args.tos.now (lent s) _ _
-    (rows-refused (parts s) _ _ e.before.before.judge.ensures e.before.refused.ensures
+    price_answers (run s) s.args.froms.now s.args.tos.now (lent s) _ _
+    (rows_refused_lem (parts s) _ _ e.before.before.judge.ensures e.before.refused.ensures
     _ _ (list-is l) d.before.refused2.ensures _ _ (rows_are x) c.before.before.refused3.ensures e.if1.false d.if2.false c.before.if3.true _ c.refuse3.ensures)
 
 -- Past the second check the list is good too.
@@ -121,7 +121,7 @@ priced-requires c κs =
     let l = d.before.before in
     let e = l.before in
     let s = start e in (
-      run-priceable (run s) (good_run e) s.args.froms.now s.args.tos.now (good-list d),
+      run_priceable (run s) (good_run e) s.args.froms.now s.args.tos.now (good-list d),
       rows_long (parts s) _ _ e.before.before.judge.ensures e.before.refused.ensures
           _ _ (list-is l) d.before.refused2.ensures _ _ (rows_are x) o.before.refused3.ensures o.if3.false,
     )
@@ -141,10 +141,10 @@ returns-4 c =
     let l = d.before.before in
     let e = l.before in
     let s = start e in
-    price-answers (run s) s.args.froms.now s.args.tos.now (lent s) _ _
-    (all-accepted (parts s) _ _ e.before.before.judge.ensures e.before.refused.ensures
+    price_answers (run s) s.args.froms.now s.args.tos.now (lent s) _ _
+    (all_accepted (parts s) _ _ e.before.before.judge.ensures e.before.refused.ensures
     _ _ (list-is l) d.before.refused2.ensures _ _ (rows_are x) o.before.refused3.ensures e.if1.false d.if2.false o.if3.false
-    _ _ (p.priced.ensures.0 ∙ priced-same (run s) (good_run e) (list_of s.args.froms.now s.args.tos.now))
+    _ _ (p.priced.ensures.0 ∙ priced_same (run s) (good_run e) (list_of s.args.froms.now s.args.tos.now))
     (p.priced.ensures.1 ∙ rows_same (run s) (good_run e) (list_of s.args.froms.now s.args.tos.now) (lent s)))
 
 pub price-spec : {M : Type 1} → statement M

@@ -7,7 +7,7 @@ use Rattle.runs.specs.Run.{Run, run_of, want_stops_of}
 use Rattle.walk.specs.Rows.{ReadRows, read_rows}
 use Rattle.walk.specs.Detours.{sweep_end}
 use Rattle.walk.specs.Private.{detour_legs, WalkFits}
-use Rattle.walk.proofs.Priced.{walk-numbers}
+use Rattle.walk.proofs.Priced.{walk_numbers}
 use Rattle.walk.proofs.pricing.priced.Statement.{statement}
 use Rattle.walk.proofs.pricing.priced.Tie as tie
 
@@ -70,7 +70,7 @@ returns c =
     let f = c.before.before.before.before.before in
     let n = f.before.before.before in
     let s = at-start n.before in
-    walk-numbers (run s) s.args.froms.now s.args.tos.now (lent s) s.pre.0 _ (swept n.before) _ f.fill-reads.ensures.0
+    walk_numbers (run s) s.args.froms.now s.args.tos.now (lent s) s.pre.0 _ (swept n.before) _ f.fill-reads.ensures.0
     _ f.fill-reads.ensures.1.0 _ f.fill-reads.ensures.1.1 _ c.walk-end.ensures
 
 pub priced-spec : {M : Type 1} → statement M

@@ -9,7 +9,7 @@ use lib.Dec.{leb}
 use Rattle.runs.specs.Run.{stop_of}
 use Rattle.runs.proofs.Stops.{extent}
 use Rattle.walk.specs.Private.{row_legs}
-use Rattle.walk.proofs.Legs.{next_fits, left_falls, Timing, timing-start, timing-on, read-now, reads-within, never-read, next-leg, NextLeg}
+use Rattle.walk.proofs.Legs.{next_fits, left_falls, Timing, timing_start, timing_on, read_now, reads_within, never_read, next_leg, NextLeg}
 use Rattle.walk.proofs.pricing.read_of.Statement.{statement}
 use Rattle.walk.proofs.pricing.read_of.Tie as tie
 
@@ -55,7 +55,7 @@ at-requires c κs = search rules
 loop-holds : tie.Need-loop-init invariant-loop decreases-loop
 loop-holds c =
     let s = at-start c in
-    rw c.at.ensures (timing-start _ _ _ _ s.pre.0.within)
+    rw c.at.ensures (timing_start _ _ _ _ s.pre.0.within)
 
 leg-at-requires : tie.Need-leg-at-requires invariant-loop decreases-loop
 leg-at-requires c κs =
@@ -69,7 +69,7 @@ next : (c : tie.After-leg-at invariant-loop decreases-loop)
     c.before.before.loop.i a.turn c.leg-at.result
 next c =
     let s = at-start c.before.before.before in
-    next-leg _ _ _ s.pre.0.within _ _ c.before.before.loop.invariant.walking (leg-in _ _ _ c.before.loop-test.true s.pre.0.all) _ c.leg-at.ensures
+    next_leg _ _ _ s.pre.0.within _ _ c.before.before.loop.invariant.walking (leg-in _ _ _ c.before.loop-test.true s.pre.0.all) _ c.leg-at.ensures
 
 set-off-requires : tie.Need-set-off-requires invariant-loop decreases-loop
 set-off-requires c κs = ((next c).back, (next c).room)
@@ -96,7 +96,7 @@ run-right-requires c κs =
     let t = s.pre.0.fit.list.table in
     let n = next la in
     let x = extent s.args.starts.now s.args.lengths.now s.args.aggregates.now t.sound t.rows s.args.file s.pre.1 in
-    let r = reads-within _ _ _ _ _ _ al.loop.invariant _ n _ (test c.before) c.if1.true in
+    let r = reads_within _ _ _ _ _ _ al.loop.invariant _ n _ (test c.before) c.if1.true in
     rw (c.before.before.set-off.ensures, e.extent-end.ensures) (runs-inside _ _ _ _ _ r.0 r.1 x.extends n.off)
 
 add-leg : tie.Need-overflow-add-t22 invariant-loop decreases-loop
@@ -111,7 +111,7 @@ returns c =
     let al = la.before.before in
     let e = b.before.before.before.before.before.before in
     rw (c.run-right.ensures, b.before.set-off.ensures, e.extent-end.ensures)
-    (read-now _ _ _ _ _ _ al.loop.invariant _ (next la) _ (test b) c.before.if1.true)
+    (read_now _ _ _ _ _ _ al.loop.invariant _ (next la) _ (test b) c.before.if1.true)
 
 run-right-requires-2 : tie.Need-run-right-requires-2 invariant-loop decreases-loop
 run-right-requires-2 c κs = rw c.before.before.set-off.ensures ((next c.before.before.before).forth, (next c.before.before.before).off)
@@ -130,12 +130,12 @@ loop-again c =
     let il = b.before.before.before in
     let s = at-start il.before.before in
     rw (c.run-right2.ensures, b.before.set-off.ensures)
-    (timing-on _ _ _ _ _ _ il.before.loop.invariant _ (next b.before.before) _ (test b) s.pre.0.within (leg-in _ _ _ il.loop-test.true s.pre.0.all) c.before.if1.false)
+    (timing_on _ _ _ _ _ _ il.before.loop.invariant _ (next b.before.before) _ (test b) s.pre.0.within (leg-in _ _ _ il.loop-test.true s.pre.0.all) c.before.if1.false)
 
 returns-2 : tie.Need-returns-2 invariant-loop decreases-loop
 returns-2 c =
     let s = at-start c.before.before in
-    never-read _ _ _ _ _ _ c.before.loop.invariant (none_left _ _ _ c.loop-test.false s.pre.0.all)
+    never_read _ _ _ _ _ _ c.before.loop.invariant (none_left _ _ _ c.loop-test.false s.pre.0.all)
 
 pub read-of-spec : {M : Type 1} → statement M
 read-of-spec =

@@ -10,7 +10,7 @@ use Rattle.runs.specs.Run.{first_file, stop_of}
 use Rattle.walk.specs.Walk.{served}
 use Rattle.walk.specs.Private.{Behind, detour_legs, read_by_number}
 use Rattle.walk.proofs.Between.{by_number}
-use Rattle.walk.proofs.Sweeps.{ReadRight, read_none, read-one-more, found-unread, found_first, no_sweep}
+use Rattle.walk.proofs.Sweeps.{ReadRight, read_none, read_one_more, found_unread, found_first, no_sweep}
 use Rattle.walk.proofs.pricing.sweep_end.Statement.{statement}
 use Rattle.walk.proofs.pricing.sweep_end.Tie as tie
 
@@ -67,7 +67,7 @@ returns-2 c =
     let t = c.before in
     let l = t.before.before.before.before in
     λ m cs e behind. c.extent-end.ensures
-    ∙ found-unread _ _ _ _ _ l.loop.invariant _ _ _ cs e (numbers-say (at-start l) m behind) (sym t.before.detour-reads.ensures ∙ not-true _ t.if2.true) t.before.before.before.loop-test.true
+    ∙ found_unread _ _ _ _ _ l.loop.invariant _ _ _ cs e (numbers-say (at-start l) m behind) (sym t.before.detour-reads.ensures ∙ not-true _ t.if2.true) t.before.before.before.loop-test.true
 
 sub-i-2 : tie.Need-overflow-sub-i-2 invariant-loop decreases-loop
 sub-i-2 c = search rules
@@ -78,7 +78,7 @@ loop-less c = search rules
 loop-again : tie.Need-loop-preserved invariant-loop decreases-loop
 loop-again c =
     let d = c.before in
-    read-one-more _ _ _ _ _ d.before.before.before.loop.invariant (sym d.detour-reads.ensures ∙ not-false _ c.if2.false)
+    read_one_more _ _ _ _ _ d.before.before.before.loop.invariant (sym d.detour-reads.ensures ∙ not-false _ c.if2.false)
 
 shared-slice-read-extent-end : tie.Need-shared-slice-read-extent-end invariant-loop decreases-loop
 shared-slice-read-extent-end c = omega (arith, c.before.before.loop.invariant.within)

@@ -4,7 +4,7 @@ use borrow.Author.Rules.{rules}
 use Prim.Native.Nat.{◌-◌}
 use native.Mathlib.Omega.{arith}
 use Rattle.walk.specs.Private.{row_legs}
-use Rattle.walk.proofs.Legs.{Ending, ending-start, ending-on, ended, next-leg, NextLeg}
+use Rattle.walk.proofs.Legs.{Ending, ending_start, ending_on, ended, next_leg, NextLeg}
 use Rattle.walk.proofs.pricing.walk_end.Statement.{statement}
 use Rattle.walk.proofs.pricing.walk_end.Tie as tie
 
@@ -24,7 +24,7 @@ at-start c = c.before.before.before.before.before.before.before
 loop-holds : tie.Need-loop-init invariant-loop decreases-loop
 loop-holds c =
     let s = at-start c in
-    rw c.at.ensures (ending-start _ _ _ s.pre.within)
+    rw c.at.ensures (ending_start _ _ _ s.pre.within)
 
 leg-at-requires : tie.Need-leg-at-requires invariant-loop decreases-loop
 leg-at-requires c κs =
@@ -38,7 +38,7 @@ next : (c : tie.After-leg-at invariant-loop decreases-loop)
     c.before.before.loop.i a.turn c.leg-at.result
 next c =
     let s = at-start c.before.before.before in
-    next-leg _ _ _ s.pre.within _ _ c.before.before.loop.invariant.walking (omega (arith, s.pre.all, c.before.loop-test.true)) _ c.leg-at.ensures
+    next_leg _ _ _ s.pre.within _ _ c.before.before.loop.invariant.walking (omega (arith, s.pre.all, c.before.loop-test.true)) _ c.leg-at.ensures
 
 set-off-requires : tie.Need-set-off-requires invariant-loop decreases-loop
 set-off-requires c κs = ((next c).back, (next c).room)
@@ -59,7 +59,7 @@ loop-again c =
     let il = c.before.before.before in
     let s = at-start il.before.before in
     rw (c.run-right.ensures, c.before.set-off.ensures)
-    (ending-on _ _ _ _ _ il.before.loop.invariant s.pre.within (omega (arith, s.pre.all, il.loop-test.true)) _ (next c.before.before))
+    (ending_on _ _ _ _ _ il.before.loop.invariant s.pre.within (omega (arith, s.pre.all, il.loop-test.true)) _ (next c.before.before))
 
 returns : tie.Need-returns invariant-loop decreases-loop
 returns c =
