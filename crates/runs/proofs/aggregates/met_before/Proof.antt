@@ -12,38 +12,38 @@ use borrow.Author.Rules.{rules}
 use Rattle.runs.proofs.aggregates.met_before.Statement.{statement}
 use Rattle.runs.proofs.aggregates.met_before.Tie as tie
 
-abbrev invariant-loop : tie.invariant-loop
+abbrev invariant-loop : tie.invariant-loop-j
 invariant-loop aggregates number i j₀ j = (j ≤ i) × (any_below (λ k. eqb (get_or aggregates k 0) number) j ≡ false)
 
-abbrev decreases-loop : tie.decreases-loop
+abbrev decreases-loop : tie.decreases-loop-j
 decreases-loop aggregates number i j₀ j = i - j
 
-loop-holds : tie.Need-loop-init invariant-loop decreases-loop
+loop-holds : tie.Need-loop-j-init invariant-loop decreases-loop
 loop-holds c = (search rules, any_none _)
 
-mul-if1 : tie.Need-overflow-mul-if1 invariant-loop decreases-loop
+mul-if1 : tie.Need-offset_bounds-aggregates-j invariant-loop decreases-loop
 mul-if1 c = search rules
 
-shared-slice-read-if1 : tie.Need-shared-slice-read-if1 invariant-loop decreases-loop
+shared-slice-read-if1 : tie.Need-bounds-aggregates-j invariant-loop decreases-loop
 shared-slice-read-if1 c = search rules
 
-returns : tie.Need-returns invariant-loop decreases-loop
-returns c = sym (any_here _ _ _ (eq-eqb _ _ c.if1.true) (search rules))
+returns : tie.Need-returns-then-aggregates-j invariant-loop decreases-loop
+returns c = sym (any_here _ _ _ (eq-eqb _ _ c.if-aggregates-j.true) (search rules))
 
-add-j : tie.Need-overflow-add-j invariant-loop decreases-loop
+add-j : tie.Need-overflow_add-j invariant-loop decreases-loop
 add-j c = search rules
 
-loop-less : tie.Need-loop-smaller invariant-loop decreases-loop
+loop-less : tie.Need-loop-j-smaller invariant-loop decreases-loop
 loop-less c = search rules
 
-loop-again : tie.Need-loop-preserved invariant-loop decreases-loop
-loop-again c = (search rules, any_more _ _ c.before.before.before.loop.invariant.1 (ne_eqb _ _ c.if1.false))
+loop-again : tie.Need-loop-j-preserved invariant-loop decreases-loop
+loop-again c = (search rules, any_more _ _ c.before.before.before.loop-j.invariant.1 (ne_eqb _ _ c.if-aggregates-j.false))
 
-returns-2 : tie.Need-returns-2 invariant-loop decreases-loop
-returns-2 c = let p = c.before.loop.invariant in any_done _ _ _ p.1 p.0 c.loop-test.false
+returns-2 : tie.Need-returns invariant-loop decreases-loop
+returns-2 c = let p = c.before.loop-j.invariant in any_done _ _ _ p.1 p.0 c.loop-j-test.false
 
-pub met-before-spec : {M : Type 1} → statement M
-met-before-spec =
+pub met_before_spec : {M : Type 1} → statement M
+met_before_spec =
     tie.close
     (tie.spec
     invariant-loop

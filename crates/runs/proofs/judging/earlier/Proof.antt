@@ -7,17 +7,17 @@ use borrow.Author.Rules.{rules}
 use Rattle.runs.proofs.judging.earlier.Statement.{statement}
 use Rattle.runs.proofs.judging.earlier.Tie as tie
 
-returns : tie.Need-returns
+returns : tie.Need-returns-then-first-eq0
 returns c = search rules
 
-returns-2 : tie.Need-returns-2
-returns-2 c = earlier_none _ _ c.if2.true
+returns-2 : tie.Need-returns-then-second-eq0
+returns-2 c = earlier_none _ _ c.if-second-eq0.true
 
-returns-3 : tie.Need-returns-3
-returns-3 c = earlier_second _ _ c.before.if2.false c.if3.true
+returns-3 : tie.Need-returns-then-second-first
+returns-3 c = earlier_second _ _ c.before.if-second-eq0.false c.if-second-first.true
 
-returns-4 : tie.Need-returns-4
-returns-4 c = earlier_first _ _ c.before.if2.false c.before.before.if1.false c.if3.false
+returns-4 : tie.Need-returns
+returns-4 c = earlier_first _ _ c.before.if-second-eq0.false c.before.before.if-first-eq0.false c.if-second-first.false
 
-pub earlier-spec : {M : Type 1} → statement M
-earlier-spec = tie.close (tie.spec returns returns-2 returns-3 returns-4)
+pub earlier_spec : {M : Type 1} → statement M
+earlier_spec = tie.close (tie.spec returns returns-2 returns-3 returns-4)

@@ -13,10 +13,10 @@ use Rattle.runs.proofs.judging.right_end_joined.Statement.{statement}
 use Rattle.runs.proofs.judging.right_end_joined.Tie as tie
 
 -- The last want names a file of the table, and so does its last member.
-last-named : (e : tie.Else1) → let a = e.before.before.before.before.before.args in InTable a.starts.now (get_or a.numbers.now (length a.numbers.now - 1) 0)
-last-named e = e.before.before.before.before.before.requires.1.1 _ (omega (arith, e.if1.false))
+last-named : (e : tie.Else-numbers-eq0) → let a = e.before.before.before.before.before.args in InTable a.starts.now (get_or a.numbers.now (length a.numbers.now - 1) 0)
+last-named e = e.before.before.before.before.before.requires.1.1 _ (omega (arith, e.if-numbers-eq0.false))
 
-last-inside : (e : tie.Else1) → let a = e.before.before.before.before.before.args in last_member a.aggregates.now (get_or a.numbers.now (length a.numbers.now - 1) 0 - 1) < length a.starts.now
+last-inside : (e : tie.Else-numbers-eq0) → let a = e.before.before.before.before.before.args in last_member a.aggregates.now (get_or a.numbers.now (length a.numbers.now - 1) 0 - 1) < length a.starts.now
 last-inside e =
     let a = e.before.before.before.before.before.args in
     let n = last-named e in
@@ -24,48 +24,48 @@ last-inside e =
     let last = last_within_lem a.aggregates.now (get_or a.numbers.now (length a.numbers.now - 1) 0 - 1) (omega (arith, n.least, n.most, rows)) in
     omega (arith, last, rows)
 
-returns : tie.Need-returns
-returns c = λ cs e. right_end_none _ _ _ _ cs c.if1.true
+returns : tie.Need-returns-then-numbers-eq0
+returns c = λ cs e. right_end_none _ _ _ _ cs c.if-numbers-eq0.true
 
-sub-last : tie.Need-overflow-sub-last
+sub-last : tie.Need-overflow_sub-last
 sub-last c = search rules
 
-mul-last-member : tie.Need-overflow-mul-last-member
+mul-last-member : tie.Need-offset_bounds-numbers-last
 mul-last-member c = search rules
 
-shared-slice-read-last-member : tie.Need-shared-slice-read-last-member
+shared-slice-read-last-member : tie.Need-bounds-numbers-last
 shared-slice-read-last-member c = search rules
 
-sub-last-member : tie.Need-overflow-sub-last-member
+sub-last-member : tie.Need-overflow_sub-numbers
 sub-last-member c = (last-named c.before).least
 
-last-member-requires : tie.Need-last-member-requires
+last-member-requires : tie.Need-last_member-at-requires
 last-member-requires c κs = search rules
 
-mul-result : tie.Need-overflow-mul-result
-mul-result c = let n = last-inside c.before.before in omega (arith, c.last-member.ensures, n)
+mul-result : tie.Need-offset_bounds-starts-at
+mul-result c = let n = last-inside c.before.before in omega (arith, c.last_member-at.ensures, n)
 
-shared-slice-read-result : tie.Need-shared-slice-read-result
-shared-slice-read-result c = let n = last-inside c.before.before.before in omega (arith, c.before.last-member.ensures, n)
+shared-slice-read-result : tie.Need-bounds-starts-at
+shared-slice-read-result c = let n = last-inside c.before.before.before in omega (arith, c.before.last_member-at.ensures, n)
 
-mul-result-2 : tie.Need-overflow-mul-result-2
-mul-result-2 c = let n = last-inside c.before.before.before in omega (arith, c.before.last-member.ensures, n)
+mul-result-2 : tie.Need-offset_bounds-lengths-at
+mul-result-2 c = let n = last-inside c.before.before.before in omega (arith, c.before.last_member-at.ensures, n)
 
-shared-slice-read-result-2 : tie.Need-shared-slice-read-result-2
+shared-slice-read-result-2 : tie.Need-bounds-lengths-at
 shared-slice-read-result-2 c =
     let e = c.before.before.before.before in
-    omega (arith, c.before.before.last-member.ensures, last-inside e, e.before.before.before.before.before.requires.0.equal)
+    omega (arith, c.before.before.last_member-at.ensures, last-inside e, e.before.before.before.before.before.requires.0.equal)
 
-add-result : tie.Need-overflow-add-result
+add-result : tie.Need-overflow_add-result
 add-result c =
     let e = c.before.before.before.before in
-    rw c.before.before.last-member.ensures (omega (arith, (table_file _ _ e.before.before.before.before.before.requires.0 _ (last-inside e)).ends))
+    rw c.before.before.last_member-at.ensures (omega (arith, (table_file _ _ e.before.before.before.before.before.requires.0 _ (last-inside e)).ends))
 
-returns-2 : tie.Need-returns-2
-returns-2 c = λ cs e. rw c.before.before.last-member.ensures (right_end_some _ _ _ _ cs c.before.before.before.before.if1.false e)
+returns-2 : tie.Need-returns
+returns-2 c = λ cs e. rw c.before.before.last_member-at.ensures (right_end_some _ _ _ _ cs c.before.before.before.before.if-numbers-eq0.false e)
 
-pub right-end-joined-spec : {M : Type 1} → statement M
-right-end-joined-spec =
+pub right_end_joined_spec : {M : Type 1} → statement M
+right_end_joined_spec =
     tie.close
     (tie.spec
     returns

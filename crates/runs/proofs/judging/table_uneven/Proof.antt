@@ -8,11 +8,11 @@ use Rattle.runs.proofs.judging.table_uneven.Tie as tie
 uneven-requires : tie.Need-uneven-requires
 uneven-requires c κs = search rules
 
-returns : tie.Need-returns
-returns c = simp (sym c.before.uneven.ensures ∙ c.if1.true)
+returns : tie.Need-returns-then-uneven
+returns c = simp (sym c.before.uneven.ensures ∙ c.if-uneven.true)
 
-returns-2 : tie.Need-returns-2
-returns-2 c = simp (sym c.before.uneven.ensures ∙ c.if1.false)
+returns-2 : tie.Need-returns
+returns-2 c = simp (sym c.before.uneven.ensures ∙ c.if-uneven.false)
 
-pub table-uneven-spec : {M : Type 1} → statement M
-table-uneven-spec = tie.close (tie.spec uneven-requires returns returns-2)
+pub table_uneven_spec : {M : Type 1} → statement M
+table_uneven_spec = tie.close (tie.spec uneven-requires returns returns-2)

@@ -4,11 +4,11 @@ use borrow.Author.Tests.{lt-ltb, le-ltb}
 use Rattle.runs.proofs.judging.uneven.Statement.{statement}
 use Rattle.runs.proofs.judging.uneven.Tie as tie
 
-returns : tie.Need-returns
-returns c = simp (lt-ltb _ _ c.if1.true)
+returns : tie.Need-returns-then-most-first
+returns c = simp (lt-ltb _ _ c.if-most-first.true)
 
-returns-2 : tie.Need-returns-2
-returns-2 c = simp (le-ltb _ _ c.if1.false)
+returns-2 : tie.Need-returns
+returns-2 c = simp (le-ltb _ _ c.if-most-first.false)
 
-pub uneven-spec : {M : Type 1} → statement M
-uneven-spec = tie.close (tie.spec returns returns-2)
+pub uneven_spec : {M : Type 1} → statement M
+uneven_spec = tie.close (tie.spec returns returns-2)

@@ -7,35 +7,35 @@ use borrow.Author.Rules.{rules}
 use Rattle.runs.proofs.lists.bad_alone.Statement.{statement}
 use Rattle.runs.proofs.lists.bad_alone.Tie as tie
 
-names-stop-requires : tie.Need-names-stop-requires
+names-stop-requires : tie.Need-names_stop-requires
 names-stop-requires c κs = search rules
 
-returns : tie.Need-returns
-returns c = simp (sym c.before.names-stop.ensures ∙ not-true _ c.if1.true)
+returns : tie.Need-returns-then-not-names_stop
+returns c = simp (sym c.before.names_stop.ensures ∙ not-true _ c.if-not-names_stop.true-raw)
 
-names-stop-requires-2 : tie.Need-names-stop-requires-2
+names-stop-requires-2 : tie.Need-names_stop-requires-2
 names-stop-requires-2 c κs = search rules
 
-returns-2 : tie.Need-returns-2
-returns-2 c = simp (sym c.before.before.before.names-stop.ensures ∙ not-false _ c.before.before.if1.false, sym c.before.names-stop2.ensures ∙ not-true _ c.if2.true)
+returns-2 : tie.Need-returns-then-not-names_stop-2
+returns-2 c = simp (sym c.before.before.before.names_stop.ensures ∙ not-false _ c.before.before.if-not-names_stop.false-raw, sym c.before.names_stop-2.ensures ∙ not-true _ c.if-not-names_stop-2.true-raw)
 
-returns-3 : tie.Need-returns-3
+returns-3 : tie.Need-returns-then-to-from
 returns-3 c =
     let b = c.before in
-    simp (sym b.before.before.before.names-stop.ensures ∙ not-false _ b.before.before.if1.false, sym b.before.names-stop2.ensures ∙ not-false _ b.if2.false, lt-ltb _ _ c.if3.true)
+    simp (sym b.before.before.before.names_stop.ensures ∙ not-false _ b.before.before.if-not-names_stop.false-raw, sym b.before.names_stop-2.ensures ∙ not-false _ b.if-not-names_stop-2.false-raw, lt-ltb _ _ c.if-to-from.true)
 
-shared-slice-read-result : tie.Need-shared-slice-read-result
+shared-slice-read-result : tie.Need-bounds-numbers-0
 shared-slice-read-result c =
     let b = c.before.before in
-    named_some _ _ _ (sym b.before.before.before.names-stop.ensures ∙ not-false _ b.before.before.if1.false)
+    named_some _ _ _ (sym b.before.before.before.names_stop.ensures ∙ not-false _ b.before.before.if-not-names_stop.false-raw)
 
-returns-4 : tie.Need-returns-4
+returns-4 : tie.Need-returns
 returns-4 c =
     let b = c.before.before in
-    simp (sym b.before.before.before.names-stop.ensures ∙ not-false _ b.before.before.if1.false, sym b.before.names-stop2.ensures ∙ not-false _ b.if2.false, le-ltb _ _ c.before.if3.false)
+    simp (sym b.before.before.before.names_stop.ensures ∙ not-false _ b.before.before.if-not-names_stop.false-raw, sym b.before.names_stop-2.ensures ∙ not-false _ b.if-not-names_stop-2.false-raw, le-ltb _ _ c.before.if-to-from.false)
 
-pub bad-alone-spec : {M : Type 1} → statement M
-bad-alone-spec =
+pub bad_alone_spec : {M : Type 1} → statement M
+bad_alone_spec =
     tie.close
     (tie.spec
     names-stop-requires

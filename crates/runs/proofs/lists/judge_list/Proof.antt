@@ -11,35 +11,35 @@ use borrow.Author.Rules.{rules}
 use Rattle.runs.proofs.lists.judge_list.Statement.{statement}
 use Rattle.runs.proofs.lists.judge_list.Tie as tie
 
-refuse-if-requires : tie.Need-refuse-if-requires
+refuse-if-requires : tie.Need-refuse_if-halves-requires
 refuse-if-requires c κs = search rules
 
 refused-requires : tie.Need-refused-requires
 refused-requires c κs = search rules
 
-returns : tie.Need-returns
+returns : tie.Need-returns-then-refused
 unfolding list_verdict
 returns c = λ s l cs same.
-    let is = c.before.before.refuse-if.ensures in
-    rw (test_says is c.before.refused.ensures c.if1.true) is
+    let is = c.before.before.refuse_if-halves.ensures in
+    rw (test_says is c.before.refused.ensures c.if-refused.true) is
 
-first-bad-entry-requires : tie.Need-first-bad-entry-requires
+first-bad-entry-requires : tie.Need-first_bad_entry-requires
 first-bad-entry-requires c κs =
-    eqb-true _ _ (not-false _ (accepts_if _ BadEntry refl (test_says c.before.before.refuse-if.ensures c.before.refused.ensures c.if1.false)))
+    eqb-true _ _ (not-false _ (accepts_if _ BadEntry refl (test_says c.before.before.refuse_if-halves.ensures c.before.refused.ensures c.if-refused.false)))
 
-refuse-at-requires : tie.Need-refuse-at-requires
+refuse-at-requires : tie.Need-refuse_at-requires
 refuse-at-requires c κs = search rules
 
-returns-2 : tie.Need-returns-2
+returns-2 : tie.Need-returns
 unfolding list_verdict
 returns-2 c = λ s l cs same.
     let passed = c.before.before in
     let a = passed.before.before.before.before.before.before.before.args in
-    let is = passed.before.before.refuse-if.ensures in
-    let pass = test_says is passed.before.refused.ensures passed.if1.false in
+    let is = passed.before.before.refuse_if-halves.ensures in
+    let pass = test_says is passed.before.refused.ensures passed.if-refused.false in
     let even = eqb-true _ _ (not-false _ (accepts_if _ BadEntry refl pass)) in
-    let found = c.before.first-bad-entry.ensures ∙ sym (first_bad_row s l a.aggregates.now a.numbers.now cs same a.froms.now a.tos.now even) in
-    rw pass (last_at_lem BadEntry refl c.refuse-at.ensures found)
+    let found = c.before.first_bad_entry.ensures ∙ sym (first_bad_row s l a.aggregates.now a.numbers.now cs same a.froms.now a.tos.now even) in
+    rw pass (last_at_lem BadEntry refl c.refuse_at.ensures found)
 
-pub judge-list-spec : {M : Type 1} → statement M
-judge-list-spec = tie.close (tie.spec refuse-if-requires refused-requires returns first-bad-entry-requires refuse-at-requires returns-2)
+pub judge_list_spec : {M : Type 1} → statement M
+judge_list_spec = tie.close (tie.spec refuse-if-requires refused-requires returns first-bad-entry-requires refuse-at-requires returns-2)

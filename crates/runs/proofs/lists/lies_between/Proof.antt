@@ -5,11 +5,11 @@ use borrow.Author.Rules.{rules}
 use Rattle.runs.proofs.lists.lies_between.Statement.{statement}
 use Rattle.runs.proofs.lists.lies_between.Tie as tie
 
-returns : tie.Need-returns
-returns c = simp (le-leb _ _ c.if1.true)
+returns : tie.Need-returns-then-low-number
+returns c = simp (le-leb _ _ c.if-low-number.true)
 
-returns-2 : tie.Need-returns-2
-returns-2 c = simp (lt-leb _ _ c.if1.false)
+returns-2 : tie.Need-returns
+returns-2 c = simp (lt-leb _ _ c.if-low-number.false)
 
-pub lies-between-spec : {M : Type 1} → statement M
-lies-between-spec = tie.close (tie.spec returns returns-2)
+pub lies_between_spec : {M : Type 1} → statement M
+lies_between_spec = tie.close (tie.spec returns returns-2)

@@ -6,23 +6,23 @@ use borrow.Author.Rules.{rules}
 use Rattle.runs.proofs.lists.names_stop.Statement.{statement}
 use Rattle.runs.proofs.lists.names_stop.Tie as tie
 
-is-later-member-requires : tie.Need-is-later-member-requires
+is-later-member-requires : tie.Need-is_later_member-requires
 is-later-member-requires c κs = search rules
 
-returns : tie.Need-returns
-returns c = simp (sym c.before.is-later-member.ensures ∙ c.if1.true)
+returns : tie.Need-returns-then-is_later_member
+returns c = simp (sym c.before.is_later_member.ensures ∙ c.if-is_later_member.true)
 
-last-file-requires : tie.Need-last-file-requires
+last-file-requires : tie.Need-last_file-requires
 last-file-requires c κs = search rules
 
-any-between-requires : tie.Need-any-between-requires
+any-between-requires : tie.Need-any_between-requires
 any-between-requires c κs = search rules
 
-returns-2 : tie.Need-returns-2
+returns-2 : tie.Need-returns
 returns-2 c =
     let e = c.before.before in
     let a = c.before.before.before.before.before.before.args in
-    rw (sym e.before.is-later-member.ensures ∙ e.if1.false) (c.any-between.ensures ∙ ap (some_between a.numbers.now a.file) c.before.last_file.ensures)
+    rw (sym e.before.is_later_member.ensures ∙ e.if-is_later_member.false) (c.any_between.ensures ∙ ap (some_between a.numbers.now a.file) c.before.last_file.ensures)
 
-pub names-stop-spec : {M : Type 1} → statement M
-names-stop-spec = tie.close (tie.spec is-later-member-requires returns last-file-requires any-between-requires returns-2)
+pub names_stop_spec : {M : Type 1} → statement M
+names_stop_spec = tie.close (tie.spec is-later-member-requires returns last-file-requires any-between-requires returns-2)
