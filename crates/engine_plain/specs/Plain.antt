@@ -6,7 +6,7 @@ use Rattle.refusals.specs.declared.Refusal.TheVariants.{WantRows, OverEightWants
 use Rattle.refusals.specs.declared.Verdict.{Verdict}
 use Rattle.refusals.specs.Refusals.{is_refusal, refuse_if, first_of}
 use Rattle.runs.specs.Run.{Run, most_wants, stops_of}
-use Rattle.runs.specs.Rows.{Row}
+use Rattle.runs.specs.Rows.{MutRow}
 use Rattle.runs.specs.Judging.{table_checks, judge_of}
 use Rattle.runs.specs.Lists.{Detour}
 use Rattle.walk.specs.declared.Answer.{Answer}
@@ -25,10 +25,10 @@ abbrev pub plain_rows : List ℕ → List ℕ → List ℕ → List ℕ → Plai
 plain_rows froms tos times legs = record { froms = froms; tos = tos; times = times; legs = legs }
 
 -- The rows that four parameters of a function hold, when it is called and when it returns.
-abbrev pub plain_rows_before : Both Row Row → Both Row Row → Both Row Row → Both Row Row → PlainRows
+abbrev pub plain_rows_before : Both MutRow MutRow → Both MutRow MutRow → Both MutRow MutRow → Both MutRow MutRow → PlainRows
 plain_rows_before froms tos times legs = plain_rows froms.entry.now tos.entry.now times.entry.now legs.entry.now
 
-abbrev pub plain_rows_after : Both Row Row → Both Row Row → Both Row Row → Both Row Row → PlainRows
+abbrev pub plain_rows_after : Both MutRow MutRow → Both MutRow MutRow → Both MutRow MutRow → Both MutRow MutRow → PlainRows
 plain_rows_after froms tos times legs = plain_rows froms.exit.now tos.exit.now times.exit.now legs.exit.now
 
 -- The two of them that the pricer is lent.

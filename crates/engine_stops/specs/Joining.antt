@@ -5,7 +5,7 @@ use Rattle.refusals.specs.declared.Refusal.TheVariants.{ShortRow}
 use Rattle.refusals.specs.declared.Verdict.{Verdict}
 use Rattle.refusals.specs.Refusals.{is_refusal, refuse_if, first_of}
 use Rattle.runs.specs.Run.{Run, Stop, stops_of}
-use Rattle.runs.specs.Rows.{Row}
+use Rattle.runs.specs.Rows.{MutRow}
 use Rattle.runs.specs.Judging.{judge_of}
 use Rattle.engine_stops.specs.declared.Joined.{Joined}
 
@@ -20,10 +20,10 @@ abbrev pub join_rows : List ℕ → List ℕ → List ℕ → List ℕ → JoinR
 join_rows firsts lefts spans reads = record { firsts = firsts; lefts = lefts; spans = spans; reads = reads }
 
 -- The rows that four parameters of a function hold, when it is called and when it returns.
-abbrev pub join_rows_before : Both Row Row → Both Row Row → Both Row Row → Both Row Row → JoinRows
+abbrev pub join_rows_before : Both MutRow MutRow → Both MutRow MutRow → Both MutRow MutRow → Both MutRow MutRow → JoinRows
 join_rows_before firsts lefts spans reads = join_rows firsts.entry.now lefts.entry.now spans.entry.now reads.entry.now
 
-abbrev pub join_rows_after : Both Row Row → Both Row Row → Both Row Row → Both Row Row → JoinRows
+abbrev pub join_rows_after : Both MutRow MutRow → Both MutRow MutRow → Both MutRow MutRow → Both MutRow MutRow → JoinRows
 join_rows_after firsts lefts spans reads = join_rows firsts.exit.now lefts.exit.now spans.exit.now reads.exit.now
 
 abbrev pub length_of : Stop → ℕ

@@ -6,7 +6,7 @@ use Rattle.refusals.specs.declared.Refusal.TheVariants.{FileRows, ShortRow, Shor
 use Rattle.refusals.specs.declared.Verdict.{Verdict}
 use Rattle.refusals.specs.Refusals.{is_refusal, accepted, refuse_if, first_of}
 use Rattle.runs.specs.Run.{Run, total, most_wants}
-use Rattle.runs.specs.Rows.{Row}
+use Rattle.runs.specs.Rows.{MutRow}
 use Rattle.runs.specs.AnyHead.{judge_any_of}
 use Rattle.runs.specs.Lists.{Detour}
 use Rattle.least.specs.AnyHead.{LeastAny}
@@ -22,10 +22,10 @@ abbrev pub list_rows : List ℕ → List ℕ → List ℕ → ListRows
 list_rows froms tos room = record { froms = froms; tos = tos; room = room }
 
 -- The rows that three parameters of a function hold, when it is called and when it returns.
-abbrev pub list_rows_before : Both Row Row → Both Row Row → Both Row Row → ListRows
+abbrev pub list_rows_before : Both MutRow MutRow → Both MutRow MutRow → Both MutRow MutRow → ListRows
 list_rows_before froms tos room = list_rows froms.entry.now tos.entry.now room.entry.now
 
-abbrev pub list_rows_after : Both Row Row → Both Row Row → Both Row Row → ListRows
+abbrev pub list_rows_after : Both MutRow MutRow → Both MutRow MutRow → Both MutRow MutRow → ListRows
 list_rows_after froms tos room = list_rows froms.exit.now tos.exit.now room.exit.now
 
 -- The words of working room that a run asks for, k·k·(R + 1).

@@ -1,12 +1,16 @@
 -- The run that a function's parameters hold, for contracts: in a `requires` (runIn), and in an `ensures` (run_at), which speaks of them as they were handed in.
 use Rattle.std.specs.Prelude.{ℕ, ◌+◌, cond, List, get_or, ltb}
-use Rattle.std.specs.Borrow.{Bor}
+use Rattle.std.specs.Borrow.{Bor, MutBor}
 use denote.Triple.Both.{Both}
 use Rattle.runs.specs.Run.{Run, Stop, run_of, most_reads, total}
 
 -- A row that a function is lent, and the run that five of them hold.
 abbrev pub Row : Type 0
 Row = Bor (List ℕ)
+
+-- A row that a function is lent to write in.
+abbrev pub MutRow : Type 0
+MutRow = MutBor (List ℕ)
 
 abbrev pub run_in : Row → Row → Row → Row → Row → ℕ → ℕ → Run
 run_in starts lengths aggregates numbers counts head turn = run_of starts.now lengths.now aggregates.now numbers.now counts.now head turn

@@ -12,7 +12,7 @@ use borrow.Author.Rules.{rules}
 use Rattle.desk_tickets.proofs.file_in.Statement.{statement}
 use Rattle.desk_tickets.proofs.file_in.Tie as tie
 
-judge-filing-requires : tie.Need-judge-filing-requires
+judge-filing-requires : tie.Need-judge_filing-verdict-requires
 judge-filing-requires c κs = search rules
 
 refused-requires : tie.Need-refused-requires
@@ -22,70 +22,70 @@ long : (s : tie.Start) → length s.args.row ≡ 32
 long s = search rules
 
 -- The verdict, and where it was asked for.
-abbrev judged : tie.Else1 → tie.After-judge-filing
+abbrev judged : tie.Else-refused → tie.After-judge_filing-verdict
 judged e = e.before.before.before
 
-accepts : (e : tie.Else1) → refuses (judged e).judge-filing.result ≡ false
-accepts e = sym e.before.refused.ensures ∙ e.if1.false
+accepts : (e : tie.Else-refused) → refuses (judged e).judge_filing-verdict.result ≡ false
+accepts e = sym e.refused.ensures ∙ e.if-refused.false
 
 -- The place of the store, and the number given, are in range.
-fits : (n : tie.After-count-waiting) → n.before.first-place.result + n.count-waiting.result < 32
+fits : (n : tie.After-count_waiting) → n.first_place.result + n.count_waiting.result < 32
 fits n =
-    let e = n.before.before.before in
-    let j = judged e in
-    let a = j.before.args in
-    let w = store_fits a.len a.row a.filing j.judge-filing.result j.judge-filing.ensures (accepts e) in
+    let e = n in
+    let j = judged e.before.before.before in
+    let a = j.args in
+    let w = store_fits a.len a.row a.filing j.judge_filing-verdict.result j.judge_filing-verdict.ensures (accepts e.before.before.before) in
     let p = first_place_within a.filing.office in
-    rw (n.before.first-place.ensures, n.count-waiting.ensures) (omega arith)
+    rw (n.first_place.ensures, n.count_waiting.ensures) (omega arith)
 
-given : (n : tie.After-last-of) → n.last-of.result < 65535
+given : (n : tie.After-last_of-number) → n.last_of-number.result < 65535
 given n =
     let j = judged n.before in
-    let a = j.before.args in
-    rw n.last-of.ensures (number_fits a.len a.row a.filing j.judge-filing.result j.judge-filing.ensures (accepts n.before))
+    let a = j.args in
+    rw n.last_of-number.ensures (number_fits a.len a.row a.filing j.judge_filing-verdict.result j.judge_filing-verdict.ensures (accepts n.before))
 
-returns : tie.Need-returns
+returns : tie.Need-returns-then-refused
 returns c =
-    let j = c.before.before.before in
-    let a = j.before.args in
-    file_refused a.len a.row a.filing j.judge-filing.result j.judge-filing.ensures (sym c.before.refused.ensures ∙ c.if1.true)
+    let j = c in
+    let a = j.args in
+    file_refused a.len a.row a.filing j.judge_filing-verdict.result j.judge_filing-verdict.ensures (sym c.refused.ensures ∙ c.if-refused.true)
 
-last-of-requires : tie.Need-last-of-requires
+last-of-requires : tie.Need-last_of-number-requires
 last-of-requires c κs = search rules
 
-add-number : tie.Need-overflow-add-number
+add-number : tie.Need-overflow_add-number
 add-number c = omega (arith, given c)
 
-first-place-requires : tie.Need-first-place-requires
+first-place-requires : tie.Need-first_place-requires
 first-place-requires c κs = search rules
 
-count-waiting-requires : tie.Need-count-waiting-requires
+count-waiting-requires : tie.Need-count_waiting-requires
 count-waiting-requires c κs = search rules
 
-add_at : tie.Need-overflow-add-at
+add_at : tie.Need-overflow_add-at
 add_at c = omega (arith, fits c)
 
-mul_next : tie.Need-overflow-mul-next
+mul_next : tie.Need-offset_bounds-next-at
 mul_next c = omega (arith, fits c)
 
-array-set-from-next : tie.Need-array-set-from-next
+array-set-from-next : tie.Need-bounds-next-at
 array-set-from-next c = fits c
 
-lasts-with-requires : tie.Need-lasts-with-requires
+lasts-with-requires : tie.Need-lasts_with-given-requires
 lasts-with-requires c κs = omega (arith, given c.before.before)
 
-returns-2 : tie.Need-returns-2
+returns-2 : tie.Need-returns
 returns-2 c =
-    let n = c.before in
-    let l = n.before.before in
-    let j = judged l.before in
-    let a = j.before.args in
-    file_stored a.len a.row a.filing j.judge-filing.result j.judge-filing.ensures (long j.before) (accepts l.before)
-    l.last-of.result n.before.first-place.result n.count-waiting.result c.lasts-with.result
-    l.last-of.ensures n.before.first-place.ensures n.count-waiting.ensures c.lasts-with.ensures
+    let n = c in
+    let l = n in
+    let j = judged l.before.before.before.before in
+    let a = j.args in
+    file_stored a.len a.row a.filing j.judge_filing-verdict.result j.judge_filing-verdict.ensures (long j.before) (accepts l.before.before.before.before)
+    l.last_of-number.result n.first_place.result n.count_waiting.result c.lasts_with-given.result
+    l.last_of-number.ensures n.first_place.ensures n.count_waiting.ensures c.lasts_with-given.ensures
 
-pub file-in-spec : {M : Type 1} → statement M
-file-in-spec =
+pub file_in_spec : {M : Type 1} → statement M
+file_in_spec =
     tie.close
     (tie.spec
     judge-filing-requires

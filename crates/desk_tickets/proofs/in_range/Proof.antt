@@ -6,39 +6,39 @@ use borrow.Author.Rules.{rules}
 use Rattle.desk_tickets.proofs.in_range.Statement.{statement}
 use Rattle.desk_tickets.proofs.in_range.Tie as tie
 
-up-to-requires : tie.Need-up-to-requires
+up-to-requires : tie.Need-up_to-requires
 up-to-requires c κs = search rules
 
-up-to-requires-2 : tie.Need-up-to-requires-2
+up-to-requires-2 : tie.Need-up_to-requires-then-up_to
 up-to-requires-2 c κs = search rules
 
-up-to-requires-3 : tie.Need-up-to-requires-3
+up-to-requires-3 : tie.Need-up_to-requires-then-up_to-2
 up-to-requires-3 c κs = search rules
 
-up-to-requires-4 : tie.Need-up-to-requires-4
+up-to-requires-4 : tie.Need-up_to-requires-then-up_to-3
 up-to-requires-4 c κs = search rules
 
-returns : tie.Need-returns
+returns : tie.Need-returns-then-up_to-3
 returns c =
-    let h = c.before in
-    let g = h.before.before in
-    let e = g.before.before in
-    range_count e.before.before.args.filing (sym e.before.up_to.ensures ∙ e.if1.true) (sym g.before.up-to2.ensures ∙ g.if2.true) (sym h.before.up-to3.ensures ∙ h.if3.true) c.up-to4.ensures
+    let h = c in
+    let g = h in
+    let e = g in
+    range_count e.args.filing (sym e.up_to.ensures ∙ e.if-up_to.true) (sym g.up_to-then-up_to.ensures ∙ g.if-up_to-2.true) (sym h.up_to-then-up_to-2.ensures ∙ h.if-up_to-3.true) c.up_to-then-up_to-3.ensures
 
-returns-2 : tie.Need-returns-2
+returns-2 : tie.Need-returns-else-up_to-3
 returns-2 c =
-    let g = c.before.before in
-    let e = g.before.before in
-    range_file e.before.before.args.filing (sym e.before.up_to.ensures ∙ e.if1.true) (sym g.before.up-to2.ensures ∙ g.if2.true) (sym c.before.up-to3.ensures ∙ c.if3.false)
+    let g = c in
+    let e = g in
+    range_file e.args.filing (sym e.up_to.ensures ∙ e.if-up_to.true) (sym g.up_to-then-up_to.ensures ∙ g.if-up_to-2.true) (sym c.up_to-then-up_to-2.ensures ∙ c.if-up_to-3.false)
 
-returns-3 : tie.Need-returns-3
-returns-3 c = let e = c.before.before in range_tape e.before.before.args.filing (sym e.before.up_to.ensures ∙ e.if1.true) (sym c.before.up-to2.ensures ∙ c.if2.false)
+returns-3 : tie.Need-returns-else-up_to-2
+returns-3 c = let e = c in range_tape e.args.filing (sym e.up_to.ensures ∙ e.if-up_to.true) (sym c.up_to-then-up_to.ensures ∙ c.if-up_to-2.false)
 
-returns-4 : tie.Need-returns-4
-returns-4 c = range_office c.before.before.args.filing (sym c.before.up_to.ensures ∙ c.if1.false)
+returns-4 : tie.Need-returns-else-up_to
+returns-4 c = range_office c.args.filing (sym c.up_to.ensures ∙ c.if-up_to.false)
 
-pub in-range-spec : {M : Type 1} → statement M
-in-range-spec =
+pub in_range_spec : {M : Type 1} → statement M
+in_range_spec =
     tie.close
     (tie.spec
     up-to-requires

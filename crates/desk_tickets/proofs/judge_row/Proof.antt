@@ -8,31 +8,31 @@ use borrow.Author.Rules.{rules}
 use Rattle.desk_tickets.proofs.judge_row.Statement.{statement}
 use Rattle.desk_tickets.proofs.judge_row.Tie as tie
 
-refuse-if-requires : tie.Need-refuse-if-requires
+refuse-if-requires : tie.Need-refuse_if-short-requires
 refuse-if-requires c κs = search rules
 
 refused-requires : tie.Need-refused-requires
 refused-requires c κs = search rules
 
-returns : tie.Need-returns
+returns : tie.Need-returns-then-refused
 unfolding records_verdict
-returns c = let is = c.before.before.refuse-if.ensures in rw (test_says is c.before.refused.ensures c.if1.true) is
+returns c = let is = c.refuse_if-short.ensures in rw (test_says is c.refused.ensures c.if-refused.true) is
 
-first-bad-record-requires : tie.Need-first-bad-record-requires
+first-bad-record-requires : tie.Need-first_bad_record-requires
 first-bad-record-requires c κs = search rules
 
-refuse-at-requires : tie.Need-refuse-at-requires
+refuse-at-requires : tie.Need-refuse_at-requires
 refuse-at-requires c κs = search rules
 
-returns-2 : tie.Need-returns-2
+returns-2 : tie.Need-returns
 unfolding records_verdict
 returns-2 c =
-    let e = c.before.before in
-    let is = e.before.before.refuse-if.ensures in
-    rw (test_says is e.before.refused.ensures e.if1.false) (last_at_lem BadRecord refl c.refuse-at.ensures c.before.first-bad-record.ensures)
+    let e = c in
+    let is = e.refuse_if-short.ensures in
+    rw (test_says is e.refused.ensures e.if-refused.false) (last_at_lem BadRecord refl c.refuse_at.ensures c.first_bad_record.ensures)
 
-pub judge-row-spec : {M : Type 1} → statement M
-judge-row-spec =
+pub judge_row_spec : {M : Type 1} → statement M
+judge_row_spec =
     tie.close
     (tie.spec
     refuse-if-requires

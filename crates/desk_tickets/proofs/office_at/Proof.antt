@@ -4,11 +4,13 @@ use borrow.Author.Tests.{lt-ltb, le-ltb}
 use Rattle.desk_tickets.proofs.office_at.Statement.{statement}
 use Rattle.desk_tickets.proofs.office_at.Tie as tie
 
-returns : tie.Need-returns
-returns c = simp (lt-ltb _ _ c.if1.true)
+returns : tie.Need-returns-then-i-lt-PLACES
+returns c = simp (lt-ltb _ _ c.if-i-lt-PLACES.true)
 
-returns-2 : tie.Need-returns-2
-returns-2 c = simp (le-ltb _ _ c.if1.false)
+returns-2 : tie.Need-returns-else-i-lt-PLACES
+returns-2 c = simp (le-ltb _ _ c.if-i-lt-PLACES.false)
 
-pub office-at-spec : {M : Type 1} → statement M
-office-at-spec = tie.close (tie.spec returns returns-2)
+pub office_at_spec : {M : Type 1} → statement M
+office_at_spec = tie.close (tie.spec
+    returns
+    returns-2)

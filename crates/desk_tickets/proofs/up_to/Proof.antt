@@ -4,11 +4,13 @@ use borrow.Author.Tests.{eq-eqb, ne_eqb}
 use Rattle.desk_tickets.proofs.up_to.Statement.{statement}
 use Rattle.desk_tickets.proofs.up_to.Tie as tie
 
-returns : tie.Need-returns
-returns c = simp (eq-eqb _ _ c.if1.true)
+returns : tie.Need-returns-then-n-eq0
+returns c = simp (eq-eqb _ _ c.if-n-eq0.true)
 
-returns-2 : tie.Need-returns-2
-returns-2 c = simp (ne_eqb _ _ c.if1.false)
+returns-2 : tie.Need-returns
+returns-2 c = simp (ne_eqb _ _ c.if-n-eq0.false)
 
-pub up-to-spec : {M : Type 1} → statement M
-up-to-spec = tie.close (tie.spec returns returns-2)
+pub up_to_spec : {M : Type 1} → statement M
+up_to_spec = tie.close (tie.spec
+    returns
+    returns-2)

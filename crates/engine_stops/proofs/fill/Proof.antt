@@ -38,11 +38,11 @@ count-in n k m h e = omega arith
 reads-few : (n k : ℕ) → n ≤ k → k ≤ most_reads → Fits w64 n
 reads-few n k h f = omega arith
 
-abbrev invariant-loop : tie.invariant-loop
+abbrev invariant-loop : tie.invariant-loop-i
 invariant-loop starts lengths aggregates numbers counts stops firsts₀ lefts₀ spans₀ reads₀ at₀ i₀ firsts lefts spans reads at i =
     Filling starts lengths aggregates numbers counts stops firsts₀ lefts₀ spans₀ reads₀ firsts lefts spans reads at i
 
-abbrev decreases-loop : tie.decreases-loop
+abbrev decreases-loop : tie.decreases-loop-i
 decreases-loop starts lengths aggregates numbers counts stops firsts₀ lefts₀ spans₀ reads₀ at₀ i₀ firsts lefts spans reads at i = i
 
 -- What was handed in, and what an accepted run says of it.
@@ -52,152 +52,152 @@ run s = let a = s.args in run_of a.starts.now a.lengths.now a.aggregates.now a.n
 good : (s : tie.Start invariant-loop decreases-loop) → let r = run s in GoodRows r.starts r.lengths r.aggregates r.numbers r.counts
 good s = good_rows (run s) s.requires.0.accepts
 
-abbrev begin : tie.At-loop invariant-loop decreases-loop → tie.Start invariant-loop decreases-loop
+abbrev begin : tie.At-loop-i invariant-loop decreases-loop → tie.Start invariant-loop decreases-loop
 begin l = l.before.before.before.before.before.before.before.before.before.before
 
 -- The way back from a place in the code to the one that the name says.
-abbrev at-start : tie.After-slice-known4 invariant-loop decreases-loop → tie.Start invariant-loop decreases-loop
+abbrev at-start : tie.After-slice_known-4-1 invariant-loop decreases-loop → tie.Start invariant-loop decreases-loop
 at-start c = c.before.before.before.before.before.before.before.before.before
 
-abbrev at-loop : tie.After-less-unless invariant-loop decreases-loop → tie.At-loop invariant-loop decreases-loop
+abbrev at-loop : tie.After-less_unless-at invariant-loop decreases-loop → tie.At-loop-i invariant-loop decreases-loop
 at-loop c = c.before.before.before.before.before
 
-loop-holds : tie.Need-loop-init invariant-loop decreases-loop
+loop-holds : tie.Need-loop-i-init invariant-loop decreases-loop
 loop-holds c = filling_none _ _ _ _ _ (good (at-start c)).even _ _ _ _ _
 
-sub-i : tie.Need-overflow-sub-i invariant-loop decreases-loop
-sub-i c = c.loop-test.true
+sub-i : tie.Need-overflow_sub-i invariant-loop decreases-loop
+sub-i c = c.loop-i-test.true
 
 -- The want at hand is one of the run's.
-at-want : (l : tie.In-loop invariant-loop decreases-loop) → l.before.loop.i - 1 < length (begin l.before).args.numbers.now
-at-want l = want-before _ _ l.loop-test.true l.before.loop.invariant.within
+at-want : (l : tie.In-loop-i invariant-loop decreases-loop) → l.loop-i.i - 1 < length (begin l.before).args.numbers.now
+at-want l = want-before _ _ l.loop-i-test.true l.loop-i.invariant.within
 
-joins-next-requires : tie.Need-joins-next-requires invariant-loop decreases-loop
+joins-next-requires : tie.Need-joins_next-same-requires invariant-loop decreases-loop
 joins-next-requires c κs = ((good (begin c.before)).fit, at-want c)
 
-mul-stop-place : tie.Need-overflow-mul-stop-place invariant-loop decreases-loop
+mul-stop-place : tie.Need-offset_bounds-numbers-i invariant-loop decreases-loop
 mul-stop-place c = scaled_Fits _ _ _ (at-want c.before) (begin c.before.before).good.1.1.1.0.1
 
-shared-slice-read-stop-place : tie.Need-shared-slice-read-stop-place invariant-loop decreases-loop
+shared-slice-read-stop-place : tie.Need-bounds-numbers-i invariant-loop decreases-loop
 shared-slice-read-stop-place c = at-want c.before.before
 
-stop-place-requires : tie.Need-stop-place-requires invariant-loop decreases-loop
+stop-place-requires : tie.Need-stop_place-place-requires invariant-loop decreases-loop
 stop-place-requires c κs =
     let g = good (begin c.before.before.before) in
     (g.table, (g.rows, g.named _ (at-want c.before.before)))
 
 -- The want at hand is the one before the last one done.
-one_less : (l : tie.In-loop invariant-loop decreases-loop) → suc (l.before.loop.i - 1) ≡ l.before.loop.i
-one_less l = one-back _ l.loop-test.true
+one_less : (l : tie.In-loop-i invariant-loop decreases-loop) → suc (l.loop-i.i - 1) ≡ l.loop-i.i
+one_less l = one-back _ l.loop-i-test.true
 
-less-unless-requires : tie.Need-less-unless-requires invariant-loop decreases-loop
+less-unless-requires : tie.Need-less_unless-at-requires invariant-loop decreases-loop
 less-unless-requires c κs =
-    let n = c.before.before in
-    let s = begin n.before.before in
-    at_some _ _ _ _ _ (good s).even _ s.pre.0.all _ _ _ _ _ _ _ _ _ _ n.before.before.loop.invariant _ (one_less n.before) _ n.joins-next.ensures
+    let n = c in
+    let s = begin n.before.before.before.before in
+    at_some _ _ _ _ _ (good s).even _ s.requires.0.all _ _ _ _ _ _ _ _ _ _ n.loop-i.invariant _ (one_less n.before.before.before) _ n.joins_next-same.ensures
 
 -- Where the want's stop stands is within the stops.
-at_room : (c : tie.After-less-unless invariant-loop decreases-loop) → c.less-unless.result < (begin (at-loop c)).args.stops
+at_room : (c : tie.After-less_unless-at invariant-loop decreases-loop) → c.less_unless-at.result < (begin (at-loop c)).args.stops
 at_room c =
-    let n = c.before.before.before in
-    let al = n.before.before in
-    let s = begin al in
-    to_room _ _ _ _ _ (good s).even _ s.pre.0.all _ _ _ _ _ _ _ _ _ _ al.loop.invariant _ (one_less n.before) _ n.joins-next.ensures _ c.less-unless.ensures
+    let n = c in
+    let al = n in
+    let s = begin al.before.before.before.before.before in
+    to_room _ _ _ _ _ (good s).even _ s.requires.0.all _ _ _ _ _ _ _ _ _ _ al.loop-i.invariant _ (one_less n.before.before.before.before) _ n.joins_next-same.ensures _ c.less_unless-at.ensures
 
-at-few : (c : tie.After-less-unless invariant-loop decreases-loop) → c.less-unless.result < 64
+at-few : (c : tie.After-less_unless-at invariant-loop decreases-loop) → c.less_unless-at.result < 64
 at-few c =
     let s = begin (at-loop c) in
-    stop-few _ _ _ (at_room c) s.pre.0.all (good s).few
+    stop-few _ _ _ (at_room c) s.requires.0.all (good s).few
 
-mul-firsts : tie.Need-overflow-mul-firsts invariant-loop decreases-loop
+mul-firsts : tie.Need-offset_bounds-firsts-at invariant-loop decreases-loop
 mul-firsts c = stop-bytes _ (at-few c)
 
-slice-write-firsts : tie.Need-slice-write-firsts invariant-loop decreases-loop
+slice-write-firsts : tie.Need-bounds-firsts-at invariant-loop decreases-loop
 slice-write-firsts c =
     let l = at-loop c in
-    stop-in _ _ _ _ (at_room c) l.loop.inv.firsts.same (begin l).pre.1.0
+    stop-in _ _ _ _ (at_room c) l.loop-i.invariant.firsts.same (begin l).requires.1.0
 
-mul-lefts : tie.Need-overflow-mul-lefts invariant-loop decreases-loop
+mul-lefts : tie.Need-offset_bounds-lefts-at invariant-loop decreases-loop
 mul-lefts c = stop-bytes _ (at-few c)
 
-slice-write-lefts : tie.Need-slice-write-lefts invariant-loop decreases-loop
+slice-write-lefts : tie.Need-bounds-lefts-at invariant-loop decreases-loop
 slice-write-lefts c =
     let l = at-loop c in
-    stop-in _ _ _ _ (at_room c) l.loop.inv.lefts.same (begin l).pre.1.1.0
+    stop-in _ _ _ _ (at_room c) l.loop-i.invariant.lefts.same (begin l).requires.1.1.0
 
-mul-spans : tie.Need-overflow-mul-spans invariant-loop decreases-loop
+mul-spans : tie.Need-offset_bounds-spans-at invariant-loop decreases-loop
 mul-spans c = stop-bytes _ (at-few c)
 
-slice-write-spans : tie.Need-slice-write-spans invariant-loop decreases-loop
+slice-write-spans : tie.Need-bounds-spans-at invariant-loop decreases-loop
 slice-write-spans c =
     let l = at-loop c in
-    stop-in _ _ _ _ (at_room c) l.loop.inv.spans.same (begin l).pre.1.1.1.0
+    stop-in _ _ _ _ (at_room c) l.loop-i.invariant.spans.same (begin l).requires.1.1.1.0
 
-mul-reads : tie.Need-overflow-mul-reads invariant-loop decreases-loop
+mul-reads : tie.Need-offset_bounds-counts-i invariant-loop decreases-loop
 mul-reads c = scaled_Fits _ _ _ (at-want c.before.before.before.before) (begin (at-loop c)).good.1.1.1.0.1
 
-shared-slice-read-reads : tie.Need-shared-slice-read-reads invariant-loop decreases-loop
+shared-slice-read-reads : tie.Need-bounds-counts-i invariant-loop decreases-loop
 shared-slice-read-reads c =
     count-in _ _ _ (at-want c.before.before.before.before.before) (good (begin (at-loop c.before))).even
 
-mul-carried : tie.Need-overflow-mul-carried invariant-loop decreases-loop
+mul-carried : tie.Need-offset_bounds-reads-at invariant-loop decreases-loop
 mul-carried c = stop-bytes _ (at-few c.before)
 
-slice-read-carried : tie.Need-slice-read-carried invariant-loop decreases-loop
+slice-read-carried : tie.Need-bounds-reads-at invariant-loop decreases-loop
 slice-read-carried c =
-    let lu = c.before.before in
-    let l = at-loop lu in
-    stop-in _ _ _ _ (at_room lu) l.loop.inv.reads.same (begin l).pre.1.1.1.1
+    let lu = c in
+    let l = at-loop lu.before.before in
+    stop-in _ _ _ _ (at_room lu.before.before) l.loop-i.invariant.reads.same (begin l).requires.1.1.1.1
 
 carried-requires : tie.Need-carried-requires invariant-loop decreases-loop
 carried-requires c κs = search rules
 
-add_reads : tie.Need-overflow-add-reads invariant-loop decreases-loop
+add_reads : tie.Need-overflow_add-reads invariant-loop decreases-loop
 add_reads c =
-    let u = c.before.before.before in
-    let n = u.before.before.before in
-    let s = begin n.before.before in
+    let u = c in
+    let n = u in
+    let s = begin n.before.before.before.before.before.before.before.before in
     reads-few _ _
-    (reads_small _ _ _ _ _ (good s).even _ s.pre.0.all _ _ _ _ _ _ _ _ _ _ n.before.before.loop.invariant _ (one_less n.before) _ n.joins-next.ensures _ u.less-unless.ensures _ c.carried.ensures)
+    (reads_small _ _ _ _ _ (good s).even _ s.requires.0.all _ _ _ _ _ _ _ _ _ _ n.loop-i.invariant _ (one_less n.before.before.before.before.before.before.before) _ n.joins_next-same.ensures _ u.less_unless-at.ensures _ c.carried.ensures)
     (good s).reads
 
-mul-reads-2 : tie.Need-overflow-mul-reads-2 invariant-loop decreases-loop
+mul-reads-2 : tie.Need-offset_bounds-reads-at-in-loop-i invariant-loop decreases-loop
 mul-reads-2 c = stop-bytes _ (at-few c.before.before.before)
 
-slice-write-reads : tie.Need-slice-write-reads invariant-loop decreases-loop
+slice-write-reads : tie.Need-bounds-reads-at-in-loop-i invariant-loop decreases-loop
 slice-write-reads c =
-    let lu = c.before.before.before in
-    let l = at-loop lu in
-    stop-in _ _ _ _ (at_room lu) l.loop.inv.reads.same (begin l).pre.1.1.1.1
+    let lu = c in
+    let l = at-loop lu.before.before.before in
+    stop-in _ _ _ _ (at_room lu.before.before.before) l.loop-i.invariant.reads.same (begin l).requires.1.1.1.1
 
-loop-less : tie.Need-loop-smaller invariant-loop decreases-loop
-loop-less c = back-less _ c.before.before.before.before.before.before.before.loop-test.true
+loop-less : tie.Need-loop-i-smaller invariant-loop decreases-loop
+loop-less c = back-less _ c.loop-i-test.true
 
-loop-again : tie.Need-loop-preserved invariant-loop decreases-loop
+loop-again : tie.Need-loop-i-preserved invariant-loop decreases-loop
 loop-again c =
-    let u = c.before.before.before in
-    let n = u.before.before.before in
-    let s = begin n.before.before in
-    filling_more _ _ _ _ _ (good s).even _ s.pre.0.all _ _ _ _ _ _ _ _ _ _ n.before.before.loop.invariant _ (one_less n.before) _ n.joins-next.ensures _
-    u.less-unless.ensures _ c.carried.ensures
-    s.pre.1.0 s.pre.1.1.0 s.pre.1.1.1.0 s.pre.1.1.1.1 _ u.before.stop-place.ensures
+    let u = c in
+    let n = u in
+    let s = begin n.before.before.before.before.before.before.before.before in
+    filling_more _ _ _ _ _ (good s).even _ s.requires.0.all _ _ _ _ _ _ _ _ _ _ n.loop-i.invariant _ (one_less n.before.before.before.before.before.before.before) _ n.joins_next-same.ensures _
+    u.less_unless-at.ensures _ c.carried.ensures
+    s.requires.1.0 s.requires.1.1.0 s.requires.1.1.1.0 s.requires.1.1.1.1 _ u.stop_place-place.ensures
 
-same_length : tie.Need-same-length invariant-loop decreases-loop
-same_length c = c.before.loop.invariant.firsts.same
+same_length : tie.Need-shape_of-firsts invariant-loop decreases-loop
+same_length c = c.loop-i.invariant.firsts.same
 
-same-length-2 : tie.Need-same-length-2 invariant-loop decreases-loop
-same-length-2 c = c.before.loop.invariant.lefts.same
+same-length-2 : tie.Need-shape_of-lefts invariant-loop decreases-loop
+same-length-2 c = c.loop-i.invariant.lefts.same
 
-same-length-3 : tie.Need-same-length-3 invariant-loop decreases-loop
-same-length-3 c = c.before.loop.invariant.spans.same
+same-length-3 : tie.Need-shape_of-spans invariant-loop decreases-loop
+same-length-3 c = c.loop-i.invariant.spans.same
 
-same-length-4 : tie.Need-same-length-4 invariant-loop decreases-loop
-same-length-4 c = c.before.loop.invariant.reads.same
+same-length-4 : tie.Need-shape_of-reads invariant-loop decreases-loop
+same-length-4 c = c.loop-i.invariant.reads.same
 
 returns : tie.Need-returns invariant-loop decreases-loop
 returns c =
     let s = begin c.before in
-    let rows = filled_rows _ _ _ _ _ (good s).even _ s.pre.0.all _ _ _ _ _ _ _ _ _ _ c.before.loop.invariant c.loop-test.false in
+    let rows = filled_rows _ _ _ _ _ (good s).even _ s.requires.0.all _ _ _ _ _ _ _ _ _ _ c.loop-i.invariant c.loop-i-test.false in
     (rows.0, (rows.1, (rows.2, rows.3)))
 
 pub fill_spec : {M : Type 1} → statement M

@@ -20,105 +20,105 @@ run s = let a = s.args in run_of a.starts.now a.lengths.now a.aggregates.now a.n
 abbrev rows : tie.Start → JoinRows
 rows s = let a = s.args in join_rows a.firsts.now a.lefts.now a.spans.now a.reads.now
 
-judge-requires : tie.Need-judge-requires
+judge-requires : tie.Need-judge-run-requires
 judge-requires c κs = search rules
 
 refused-requires : tie.Need-refused-requires
 refused-requires c κs = search rules
 
 -- The way back from a place in the code to the one that the name says.
-abbrev at-start : tie.After-judge → tie.Start
+abbrev at-start : tie.After-judge-run → tie.Start
 at-start c = c.before.before.before.before.before.before.before.before.before.before
 
-abbrev at_fill : tie.After-slice-known8 → tie.After-fill
+abbrev at_fill : tie.After-slice_known-8-1 → tie.After-fill
 at_fill c = c.before.before.before.before.before.before.before.before
 
-returns : tie.Need-returns
+returns : tie.Need-returns-then-refused
 returns c =
-    let j = c.before.before in
-    let s = at-start j in
-    let so = run_refused (run s) (rows s) _ _ j.judge.ensures c.before.refused.ensures c.if1.true in
+    let j = c in
+    let s = at-start j.before.before in
+    let so = run_refused (run s) (rows s) _ _ j.judge-run.ensures c.refused.ensures c.if-refused.true in
     (so.says, so.rows)
 
 -- Where the run has passed.
-abbrev start : tie.Else1 → tie.Start
+abbrev start : tie.Else-refused → tie.Start
 start e = e.before.before.before.before.before.before.before.before.before.before.before.before
 
-passed : (e : tie.Else1) → refuses (judge_of (run (start e))) ≡ false
-passed e = run_accepted (run (start e)) (rows (start e)) _ _ e.before.before.judge.ensures e.before.refused.ensures e.if1.false
+passed : (e : tie.Else-refused) → refuses (judge_of (run (start e))) ≡ false
+passed e = run_accepted (run (start e)) (rows (start e)) _ _ e.judge-run.ensures e.refused.ensures e.if-refused.false
 
-good : (e : tie.Else1) → let r = run (start e) in GoodRows r.starts r.lengths r.aggregates r.numbers r.counts
+good : (e : tie.Else-refused) → let r = run (start e) in GoodRows r.starts r.lengths r.aggregates r.numbers r.counts
 good e = good_rows (run (start e)) (passed e)
 
-count-stops-requires : tie.Need-count-stops-requires
+count-stops-requires : tie.Need-count_stops-stops-requires
 count-stops-requires c κs = (good c).fit
 
 -- The stops are counted.
-all-counted : (n : tie.After-count-stops) → n.count-stops.result ≡ length (stops_of (run (start n.before)))
-all-counted n = let a = (start n.before).args in n.count-stops.ensures a.starts.now a.lengths.now a.counts.now (good n.before).even
+all-counted : (n : tie.After-count_stops-stops) → n.count_stops-stops.result ≡ length (stops_of (run (start n.before)))
+all-counted n = let a = (start n.before).args in n.count_stops-stops.ensures a.starts.now a.lengths.now a.counts.now (good n.before).even
 
-short-rows-requires : tie.Need-short-rows-requires
+short-rows-requires : tie.Need-short_rows-requires
 short-rows-requires c κs = search rules
 
-refuse-if-requires : tie.Need-refuse-if-requires
+refuse-if-requires : tie.Need-refuse_if-rows-requires
 refuse-if-requires c κs = search rules
 
 refused-requires-2 : tie.Need-refused-requires-2
 refused-requires-2 c κs = search rules
 
-returns-2 : tie.Need-returns-2
+returns-2 : tie.Need-returns-then-refused-2
 returns-2 c =
-    let t = c.before.before in
-    let n = t.before.before in
-    let e = n.before in
-    let so = rows_refused_lem (run (start e)) (rows (start e)) _ _ e.before.before.judge.ensures e.before.refused.ensures
-    _ (all-counted n) _ t.before.short-rows.ensures _ _ t.refuse-if.ensures c.before.refused2.ensures e.if1.false c.if2.true
+    let t = c in
+    let n = t in
+    let e = n in
+    let so = rows_refused_lem (run (start e.before.before.before.before.before)) (rows (start e.before.before.before.before.before)) _ _ e.judge-run.ensures e.refused.ensures
+    _ (all-counted n.before.before.before.before) _ t.short_rows.ensures _ _ t.refuse_if-rows.ensures c.refused-2.ensures e.if-refused.false c.if-refused-2.true
     in
     (so.says, so.rows)
 
 fill-requires : tie.Need-fill-requires
 fill-requires c κs =
-    let d = c.before.before.before.before in
-    let t = d.before.before in
-    let n = t.before.before in
-    let e = n.before in
-    let a = (start e).args in
-    let long = rows_long (run (start e)) (rows (start e)) _ _ e.before.before.judge.ensures e.before.refused.ensures
-    _ (all-counted n) _ t.before.short-rows.ensures _ _ t.refuse-if.ensures d.before.refused2.ensures d.if2.false
+    let d = c in
+    let t = d in
+    let n = t in
+    let e = n in
+    let a = (start e.before.before.before.before.before.before.before.before.before).args in
+    let long = rows_long (run (start e.before.before.before.before.before.before.before.before.before)) (rows (start e.before.before.before.before.before.before.before.before.before)) _ _ e.judge-run.ensures e.refused.ensures
+    _ (all-counted n.before.before.before.before.before.before.before.before) _ t.short_rows.ensures _ _ t.refuse_if-rows.ensures d.refused-2.ensures d.if-refused-2.false
     in (
-      record { head = a.head; turn = a.turn; accepts = passed e; all = all-counted n },
+      record { head = a.head; turn = a.turn; accepts = passed e.before.before.before.before.before.before.before.before.before; all = all-counted n.before.before.before.before.before.before.before.before },
       (long.firsts, (long.lefts, (long.spans, long.reads))),
     )
 
-same_length : tie.Need-same-length
-same_length c = (at_fill c).fill.auto.1.1.1.1.1.1.0
+same_length : tie.Need-shape_of-firsts
+same_length c = (at_fill c).fill.auto.firsts
 
-same-length-2 : tie.Need-same-length-2
-same-length-2 c = (at_fill c).fill.auto.1.1.1.1.1.1.1.0
+same-length-2 : tie.Need-shape_of-lefts
+same-length-2 c = (at_fill c).fill.auto.lefts
 
-same-length-3 : tie.Need-same-length-3
-same-length-3 c = (at_fill c).fill.auto.1.1.1.1.1.1.1.1.0
+same-length-3 : tie.Need-shape_of-spans
+same-length-3 c = (at_fill c).fill.auto.spans
 
-same-length-4 : tie.Need-same-length-4
-same-length-4 c = (at_fill c).fill.auto.1.1.1.1.1.1.1.1.1.0
+same-length-4 : tie.Need-shape_of-reads
+same-length-4 c = (at_fill c).fill.auto.reads
 
-returns-3 : tie.Need-returns-3
+returns-3 : tie.Need-returns
 returns-3 c =
     let z = at_fill c in
-    let d = z.before.before.before.before.before in
-    let t = d.before.before in
-    let n = t.before.before in
-    let e = n.before in
-    let s = start e in
+    let d = z in
+    let t = d in
+    let n = t in
+    let e = n in
+    let s = start e.before.before.before.before.before.before.before.before.before.before in
     let filled = z.fill.ensures in
-    let so = rows_accepted (run s) (rows s) _ _ e.before.before.judge.ensures e.before.refused.ensures
-    _ (all-counted n) _ t.before.short-rows.ensures _ _ t.refuse-if.ensures d.before.refused2.ensures e.if1.left d.if2.left
+    let so = rows_accepted (run s) (rows s) _ _ e.judge-run.ensures e.refused.ensures
+    _ (all-counted n.before.before.before.before.before.before.before.before.before) _ t.short_rows.ensures _ _ t.refuse_if-rows.ensures d.refused-2.ensures e.if-refused.left d.if-refused-2.left
     _ (four_rows_lem filled.0 filled.1.0 filled.1.1.0 filled.1.1.1)
     in
     (so.says, so.rows)
 
-pub join-spec : {M : Type 1} → statement M
-join-spec =
+pub join_spec : {M : Type 1} → statement M
+join_spec =
     tie.close
     (tie.spec
     judge-requires

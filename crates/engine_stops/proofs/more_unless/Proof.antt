@@ -4,14 +4,17 @@ use borrow.Author.Rules.{rules}
 use Rattle.engine_stops.proofs.more_unless.Statement.{statement}
 use Rattle.engine_stops.proofs.more_unless.Tie as tie
 
-returns : tie.Need-returns
+returns : tie.Need-returns-then-same
 returns c = search rules
 
-add-result : tie.Need-overflow-add-result
+add-result : tie.Need-overflow_add-result
 add-result c = search rules
 
-returns-2 : tie.Need-returns-2
-returns-2 c = rw c.if1.false
+returns-2 : tie.Need-returns
+returns-2 c = rw c.if-same.false
 
-pub more-unless-spec : {M : Type 1} → statement M
-more-unless-spec = tie.close (tie.spec returns add-result returns-2)
+pub more_unless_spec : {M : Type 1} → statement M
+more_unless_spec = tie.close (tie.spec
+    returns
+    add-result
+    returns-2)

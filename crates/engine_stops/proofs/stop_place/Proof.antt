@@ -8,63 +8,63 @@ use borrow.Author.Rules.{rules}
 use Rattle.engine_stops.proofs.stop_place.Statement.{statement}
 use Rattle.engine_stops.proofs.stop_place.Tie as tie
 
-abbrev start : tie.After-last-member → tie.Start
+abbrev start : tie.After-last_member-last → tie.Start
 start l = l.before.before.before.before.before
 
 -- The file lies within its aggregate, and that within the table.
-lies : (l : tie.After-last-member) → let a = (start l).args in Extent a.starts.now a.lengths.now a.aggregates.now (start l).requires.0 (start l).requires.1.0 a.file
+lies : (l : tie.After-last_member-last) → let a = (start l).args in Extent a.starts.now a.lengths.now a.aggregates.now (start l).requires.0 (start l).requires.1.0 a.file
 lies l = let a = (start l).args in extent a.starts.now a.lengths.now a.aggregates.now (start l).requires.0 (start l).requires.1.0 a.file (start l).requires.1.1
 
-sub_at : tie.Need-overflow-sub-at
+sub_at : tie.Need-overflow_sub-at
 sub_at c = search rules
 
-first-member-requires : tie.Need-first-member-requires
+first-member-requires : tie.Need-first_member-first-requires
 first-member-requires c κs = search rules
 
-last-member-requires : tie.Need-last-member-requires
+last-member-requires : tie.Need-last_member-last-requires
 last-member-requires c κs = search rules
 
-mul-start : tie.Need-overflow-mul-start
-mul-start c = let e = lies c in omega (arith, c.before.first_member.ensures, e.first, e.last, e.inside)
+mul-start : tie.Need-offset_bounds-starts-first
+mul-start c = let e = lies c in omega (arith, c.first_member-first.ensures, e.first, e.last, e.inside)
 
-shared-slice-read-start : tie.Need-shared-slice-read-start
-shared-slice-read-start c = let e = lies c.before in omega (arith, c.before.before.first_member.ensures, e.first, e.last, e.inside)
+shared-slice-read-start : tie.Need-bounds-starts-first
+shared-slice-read-start c = let e = lies c.before in omega (arith, c.first_member-first.ensures, e.first, e.last, e.inside)
 
-add-t12 : tie.Need-overflow-add-t12
-add-t12 c = let e = lies c.before in omega (arith, c.before.before.first_member.ensures, e.first, e.last, e.inside)
+add-t12 : tie.Need-overflow_add-result
+add-t12 c = let e = lies c.before in omega (arith, c.first_member-first.ensures, e.first, e.last, e.inside)
 
-mul-t10 : tie.Need-overflow-mul-t10
-mul-t10 c = omega (arith, c.before.last-member.ensures, (lies c.before).inside)
+mul-t10 : tie.Need-offset_bounds-starts-last
+mul-t10 c = omega (arith, c.last_member-last.ensures, (lies c.before).inside)
 
-shared-slice-read-t14 : tie.Need-shared-slice-read-t14
-shared-slice-read-t14 c = omega (arith, c.before.before.last-member.ensures, (lies c.before.before).inside)
+shared-slice-read-t14 : tie.Need-bounds-starts-last
+shared-slice-read-t14 c = omega (arith, c.last_member-last.ensures, (lies c.before.before).inside)
 
-mul-t15 : tie.Need-overflow-mul-t15
-mul-t15 c = omega (arith, c.before.before.last-member.ensures, (lies c.before.before).inside)
+mul-t15 : tie.Need-offset_bounds-lengths-last
+mul-t15 c = omega (arith, c.last_member-last.ensures, (lies c.before.before).inside)
 
-shared-slice-read-t17 : tie.Need-shared-slice-read-t17
+shared-slice-read-t17 : tie.Need-bounds-lengths-last
 shared-slice-read-t17 c =
-    let l = c.before.before.before in
-    omega (arith, l.last-member.ensures, (lies l).inside, (start l).requires.0.equal)
+    let l = c in
+    omega (arith, l.last_member-last.ensures, (lies l.before.before.before).inside, (start l.before.before.before).requires.0.equal)
 
-add-t18 : tie.Need-overflow-add-t18
+add-t18 : tie.Need-overflow_add-result-2
 add-t18 c =
-    let l = c.before.before.before in
-    rw l.last-member.ensures (omega (arith, (table_file _ _ (start l).requires.0 _ (lies l).inside).ends))
+    let l = c in
+    rw l.last_member-last.ensures (omega (arith, (table_file _ _ (start l.before.before.before).requires.0 _ (lies l.before.before.before).inside).ends))
 
-sub-t19 : tie.Need-overflow-sub-t19
+sub-t19 : tie.Need-overflow_sub-result
 sub-t19 c =
-    let l = c.before.before.before in
-    rw (l.last-member.ensures, l.before.first_member.ensures) (omega (arith, (lies l).extends))
+    let l = c in
+    rw (l.last_member-last.ensures, l.first_member-first.ensures) (omega (arith, (lies l.before.before.before).extends))
 
 returns : tie.Need-returns
 returns c =
-    let l = c.before.before.before in
-    let a = (start l).args in
-    place_is a.starts.now a.lengths.now a.aggregates.now a.file _ _ (start l).requires.1.1.least l.before.first_member.ensures l.last-member.ensures
+    let l = c in
+    let a = (start l.before.before.before).args in
+    place_is a.starts.now a.lengths.now a.aggregates.now a.file _ _ (start l.before.before.before).requires.1.1.least l.first_member-first.ensures l.last_member-last.ensures
 
-pub stop-place-spec : {M : Type 1} → statement M
-stop-place-spec =
+pub stop_place_spec : {M : Type 1} → statement M
+stop_place_spec =
     tie.close
     (tie.spec
     sub_at

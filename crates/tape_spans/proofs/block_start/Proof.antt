@@ -6,17 +6,21 @@ use Rattle.tape_spans.proofs.Places.{start_no_size, start_in_blocks}
 use Rattle.tape_spans.proofs.block_start.Statement.{statement}
 use Rattle.tape_spans.proofs.block_start.Tie as tie
 
-returns : tie.Need-returns
-returns c = start_no_size _ c.before.args.block c.before.args.offset c.if1.true
+returns : tie.Need-returns-then-size-eq0
+returns c = start_no_size _ c.args.block c.args.offset c.if-size-eq0.true
 
-div-add : tie.Need-nonzero-div-add
+div-add : tie.Need-nonzero_div-offset
 div-add c = search rules
 
 add-requires : tie.Need-add-requires
 add-requires c κs = search rules
 
-returns-2 : tie.Need-returns-2
-returns-2 c = let a = c.before.before.args in c.add.ensures ∙ start_in_blocks a.size a.block a.offset c.before.if1.false
+returns-2 : tie.Need-returns
+returns-2 c = let a = c.args in c.add.ensures ∙ start_in_blocks a.size a.block a.offset c.if-size-eq0.false
 
-pub block-start-spec : {M : Type 1} → statement M
-block-start-spec = tie.close (tie.spec returns div-add add-requires returns-2)
+pub block_start_spec : {M : Type 1} → statement M
+block_start_spec = tie.close (tie.spec
+    returns
+    div-add
+    add-requires
+    returns-2)

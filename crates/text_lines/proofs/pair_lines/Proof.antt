@@ -7,47 +7,47 @@ use Rattle.text_lines.proofs.Passing.{LinesSeen, lines_none, line_bad_here, line
 use Rattle.text_lines.proofs.pair_lines.Statement.{statement}
 use Rattle.text_lines.proofs.pair_lines.Tie as tie
 
-abbrev invariant-loop : tie.invariant-loop
+abbrev invariant-loop : tie.invariant-loop-i
 invariant-loop text at key count next₀ i₀ next i = LinesSeen (is_pair_line key) text at count next i
 
-abbrev decreases-loop : tie.decreases-loop
+abbrev decreases-loop : tie.decreases-loop-i
 decreases-loop text at key count next₀ i₀ next i = count - i
 
-position-requires : tie.Need-position-requires invariant-loop decreases-loop
+position-requires : tie.Need-position-next-requires invariant-loop decreases-loop
 position-requires c κs = search rules
 
-loop-holds : tie.Need-loop-init invariant-loop decreases-loop
-loop-holds c = lines_none _ _ _ _ _ c.position.ensures.0 c.position.ensures.1
+loop-holds : tie.Need-loop-i-init invariant-loop decreases-loop
+loop-holds c = lines_none _ _ _ _ _ c.position-next.ensures.0 c.position-next.ensures.1
 
-pair-line-requires : tie.Need-pair-line-requires invariant-loop decreases-loop
+pair-line-requires : tie.Need-pair_line-requires invariant-loop decreases-loop
 pair-line-requires c κs = search rules
 
-enum-known-after : tie.Need-enum-known-after invariant-loop decreases-loop
+enum-known-after : tie.Need-enum_known-after invariant-loop decreases-loop
 enum-known-after c = search rules
 
-enum_told : tie.Need-enum-told invariant-loop decreases-loop
+enum_told : tie.Need-enum_told-1 invariant-loop decreases-loop
 enum_told c = search rules
 
-add-t10 : tie.Need-overflow-add-t10 invariant-loop decreases-loop
+add-t10 : tie.Need-overflow_add-result invariant-loop decreases-loop
 add-t10 c = search rules
 
-returns : tie.Need-returns invariant-loop decreases-loop
-returns c = line_bad_here _ _ _ _ _ _ c.before.before.before.before.loop.invariant (search rules) (pair_unread _ _ _ _ c.before.before.pair_line.ensures c.enum_told.given.1)
+returns : tie.Need-returns-in_default invariant-loop decreases-loop
+returns c = line_bad_here _ _ _ _ _ _ c.loop-i.invariant (search rules) (pair_unread _ _ _ _ c.pair_line.ensures c.in_default.is)
 
-add-i : tie.Need-overflow-add-i invariant-loop decreases-loop
+add-i : tie.Need-overflow_add-i invariant-loop decreases-loop
 add-i c = search rules
 
-loop-less : tie.Need-loop-smaller invariant-loop decreases-loop
+loop-less : tie.Need-loop-i-smaller invariant-loop decreases-loop
 loop-less c = search rules
 
-loop-again : tie.Need-loop-preserved invariant-loop decreases-loop
-loop-again c = line_seen _ _ _ _ _ _ c.before.before.before.before.before.loop.invariant (search rules) _ (pair_read _ _ _ _ c.before.before.before.pair_line.ensures _ _ _ c.before.after.given.1).passed
+loop-again : tie.Need-loop-i-preserved invariant-loop decreases-loop
+loop-again c = line_seen _ _ _ _ _ _ c.loop-i.invariant (search rules) _ (pair_read _ _ _ _ c.pair_line.ensures _ _ _ c.in-Both.is).passed
 
-returns-2 : tie.Need-returns-2 invariant-loop decreases-loop
-returns-2 c = lines_passed _ _ _ _ _ _ c.before.loop.invariant c.loop-test.false
+returns-2 : tie.Need-returns invariant-loop decreases-loop
+returns-2 c = lines_passed _ _ _ _ _ _ c.loop-i.invariant c.loop-i-test.false
 
-pub pair-lines-spec : {M : Type 1} → statement M
-pair-lines-spec =
+pub pair_lines_spec : {M : Type 1} → statement M
+pair_lines_spec =
     tie.close
     (tie.spec
     invariant-loop

@@ -6,11 +6,13 @@ use Rattle.text_lines.proofs.Passing.{nothing_behind}
 use Rattle.text_lines.proofs.position.Statement.{statement}
 use Rattle.text_lines.proofs.position.Tie as tie
 
-returns : tie.Need-returns
-returns c = (omega arith, nothing_behind _ _ c.if1.true)
+returns : tie.Need-returns-then-text-at
+returns c = (omega arith, nothing_behind _ _ c.if-text-at.true)
 
-returns-2 : tie.Need-returns-2
+returns-2 : tie.Need-returns
 returns-2 c = (omega arith, refl)
 
-pub position-spec : {M : Type 1} → statement M
-position-spec = tie.close (tie.spec returns returns-2)
+pub position_spec : {M : Type 1} → statement M
+position_spec = tie.close (tie.spec
+    returns
+    returns-2)

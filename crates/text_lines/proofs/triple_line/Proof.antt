@@ -6,58 +6,58 @@ use borrow.Author.Rules.{rules}
 use Rattle.text_lines.proofs.triple_line.Statement.{statement}
 use Rattle.text_lines.proofs.triple_line.Tie as tie
 
-find-value-requires : tie.Need-find-value-requires
+find-value-requires : tie.Need-find_value-requires
 find-value-requires c κs = search rules
 
-enum-known-from : tie.Need-enum-known-from
+enum-known-from : tie.Need-enum_known-from
 enum-known-from c = search rules
 
-enum_told : tie.Need-enum-told
+enum_told : tie.Need-enum_told-1
 enum_told c = search rules
 
-returns : tie.Need-returns
-returns c = unkeyed_triple _ _ (unkeyed _ _ _ _ c.before.before.find-value.ensures c.enum_told.given.1)
+returns : tie.Need-returns-in_default
+returns c = unkeyed_triple _ _ (unkeyed _ _ _ _ c.find_value.ensures c.in_default.is)
 
-sub-read-triple : tie.Need-overflow-sub-read-triple
-sub-read-triple c = (value_at _ _ _ _ c.before.before.before.find-value.ensures _ _ c.before.from.given.1).ordered
+sub-read-triple : tie.Need-slice_bounds-read_triple-count
+sub-read-triple c = (value_at _ _ _ _ c.find_value.ensures _ _ c.in-Text.is).ordered
 
-part-read-triple-start : tie.Need-slice-bounds-read-triple-start
-part-read-triple-start c = (value_at _ _ _ _ c.before.before.before.find-value.ensures _ _ c.before.from.given.1).ordered
+part-read-triple-start : tie.Need-slice_bounds-read_triple-start
+part-read-triple-start c = (value_at _ _ _ _ c.find_value.ensures _ _ c.in-Text.is).ordered
 
-part-read-triple-end : tie.Need-slice-bounds-read-triple-end
-part-read-triple-end c = let v = value_at _ _ _ _ c.before.before.before.find-value.ensures _ _ c.before.from.given.1 in omega (arith, v.within)
+part-read-triple-end : tie.Need-slice_bounds-read_triple-end
+part-read-triple-end c = let v = value_at _ _ _ _ c.find_value.ensures _ _ c.in-Text.is in omega (arith, v.within)
 
-read-triple-requires : tie.Need-read-triple-requires
+read-triple-requires : tie.Need-read_triple-requires
 read-triple-requires c κs = search rules
 
-enum-known-first : tie.Need-enum-known-first
+enum-known-first : tie.Need-enum_known-first
 enum-known-first c = search rules
 
-enum-told-2 : tie.Need-enum-told-2
+enum-told-2 : tie.Need-enum_told-in_default-read_triple
 enum-told-2 c = search rules
 
 -- The way back from a place in the code to the one that the name says.
-abbrev at_from : tie.After-known-told2 → tie.After-from
-at_from c = c.before.before.before.before.before.before
+abbrev at_from : tie.In-All → tie.In-Text
+at_from c = c.before.before.before
 
-returns-2 : tie.Need-returns-2
+returns-2 : tie.Need-returns-in_default-read_triple
 returns-2 c =
-    let rt = c.before.before in
-    let f = rt.before.before.before in
-    triple_line_bad _ _ _ _ f.before.before.find-value.ensures _ _ f.from.given.1 _ rt.read-triple.ensures c.enum-told2.given.1
+    let rt = c in
+    let f = rt in
+    triple_line_bad _ _ _ _ f.find_value.ensures _ _ f.in-Text.is _ rt.read_triple.ensures c.in_default-read_triple.is
 
-add-t12 : tie.Need-overflow-add-t12
+add-t12 : tie.Need-overflow_add-result
 add-t12 c =
     let f = at_from c in
-    let v = value_at _ _ _ _ f.before.before.find-value.ensures _ _ f.from.given.1 in omega (arith, v.within)
+    let v = value_at _ _ _ _ f.find_value.ensures _ _ f.in-Text.is in omega (arith, v.within)
 
-returns-3 : tie.Need-returns-3
+returns-3 : tie.Need-returns
 returns-3 c =
     let f = at_from c in
-    triple_line_good _ _ _ _ f.before.before.find-value.ensures _ _ f.from.given.1 _ c.before.before.before.read-triple.ensures _ _ _ c.before.first.given.1
+    triple_line_good _ _ _ _ f.find_value.ensures _ _ f.in-Text.is _ c.read_triple.ensures _ _ _ c.in-All.is
 
-pub triple-line-spec : {M : Type 1} → statement M
-triple-line-spec =
+pub triple_line_spec : {M : Type 1} → statement M
+triple_line_spec =
     tie.close
     (tie.spec
     find-value-requires

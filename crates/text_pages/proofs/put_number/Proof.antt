@@ -5,34 +5,34 @@ use borrow.Author.Rules.{rules}
 use Rattle.text_pages.proofs.put_number.Statement.{statement}
 use Rattle.text_pages.proofs.put_number.Tie as tie
 
-lacks-room-requires : tie.Need-lacks-room-requires
+lacks-room-requires : tie.Need-lacks_room-requires
 lacks-room-requires c κs = search rules
 
-returns : tie.Need-returns
-returns c = put_none c.before.lacks-room.ensures c.if1.true
+returns : tie.Need-returns-then-lacks_room
+returns c = put_none c.lacks_room.ensures c.if-lacks_room.true
 
-decimal-requires : tie.Need-decimal-requires
+decimal-requires : tie.Need-decimal-places-requires
 decimal-requires c κs = search rules
 
-array-share-prefix-digits : tie.Need-array-share-prefix-digits
+array-share-prefix-digits : tie.Need-slice_bounds-digits-end
 array-share-prefix-digits c = search rules
 
-slice-aggregate-put : tie.Need-slice-aggregate-put
+slice-aggregate-put : tie.Need-slice_bounds-put-end
 slice-aggregate-put c = search rules
 
 put-requires : tie.Need-put-requires
 put-requires c κs = search rules
 
-same_length : tie.Need-same-length
-same_length c = c.before.before.put.auto.0
+same_length : tie.Need-shape_of-page
+same_length c = c.put.auto.page
 
-returns-2 : tie.Need-returns-2
+returns-2 : tie.Need-returns
 returns-2 c =
-    let c5 = c.before.before.before.before.before in
-    put_number_lem _ _ _ _ _ _ _ (room_left_lem _ _ c5.before.before.before.lacks-room.ensures c5.before.before.if1.false) c5.before.before.before.before.before.ranges.number.fits c5.decimal.ensures.1.0 c5.decimal.ensures.1.1 c.before.before.put.ensures
+    let c5 = c in
+    put_number_lem _ _ _ _ _ _ _ (room_left_lem _ _ c5.lacks_room.ensures c5.if-lacks_room.false) c5.ranges.number.fits c5.decimal-places.ensures.1.0 c5.decimal-places.ensures.1.1 c.put.ensures
 
-pub put-number-spec : {M : Type 1} → statement M
-put-number-spec =
+pub put_number_spec : {M : Type 1} → statement M
+put_number_spec =
     tie.close
     (tie.spec
     lacks-room-requires

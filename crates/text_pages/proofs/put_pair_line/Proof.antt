@@ -7,41 +7,38 @@ use borrow.Author.Rules.{rules}
 use Rattle.text_pages.proofs.put_pair_line.Statement.{statement}
 use Rattle.text_pages.proofs.put_pair_line.Tie as tie
 
-add-lacks-room : tie.Need-overflow-add-lacks-room
+add-lacks-room : tie.Need-overflow_add-key
 add-lacks-room c = search rules
 
-lacks-room-requires : tie.Need-lacks-room-requires
+lacks-room-requires : tie.Need-lacks_room-requires
 lacks-room-requires c κs = search rules
 
-returns : tie.Need-returns
-returns c = put_none c.before.lacks-room.ensures c.if1.true
+returns : tie.Need-returns-then-lacks_room
+returns c = put_none c.lacks_room.ensures c.if-lacks_room.true
 
-put-requires : tie.Need-put-requires
+put-requires : tie.Need-put-value-requires
 put-requires c κs = search rules
 
-put-pair-requires : tie.Need-put-pair-requires
+put-pair-requires : tie.Need-put_pair-end-requires
 put-pair-requires c κs = search rules
 
-slice-aggregate-put : tie.Need-slice-aggregate-put
-slice-aggregate-put c = search rules
-
-put-requires-2 : tie.Need-put-requires-2
+put-requires-2 : tie.Need-put-requires
 put-requires-2 c κs = search rules
 
-same_length : tie.Need-same-length
+same_length : tie.Need-shape_of-page
 same_length c =
-    let c7 = c.before.before.before.before.before.before.before in
-    c.before.before.put2.auto.0 ∙ c7.put-pair.auto.0 ∙ c7.before.before.before.before.put.auto.0
+    let c7 = c in
+    c.put.auto.page ∙ c7.put_pair-end.auto.page ∙ c7.put-value.auto.page
 
-returns-2 : tie.Need-returns-2
+returns-2 : tie.Need-returns
 returns-2 c =
-    let c7 = c.before.before.before.before.before.before.before in
-    let c13 = c7.before.before.before.before.before.before in
-    let r = room_left_lem _ _ c13.before.lacks-room.ensures c13.if1.false in
-    put_three _ r (omega arith) c7.before.before.before.before.put.ensures c7.put-pair.ensures c.before.before.put2.ensures
+    let c7 = c in
+    let c13 = c7 in
+    let r = room_left_lem _ _ c13.lacks_room.ensures c13.if-lacks_room.false in
+    put_three _ r (omega arith) c7.put-value.ensures c7.put_pair-end.ensures c.put.ensures
 
-pub put-pair-line-spec : {M : Type 1} → statement M
-put-pair-line-spec =
+pub put_pair_line_spec : {M : Type 1} → statement M
+put_pair_line_spec =
     tie.close
     (tie.spec
     add-lacks-room
@@ -49,7 +46,6 @@ put-pair-line-spec =
     returns
     put-requires
     put-pair-requires
-    slice-aggregate-put
     put-requires-2
     same_length
     returns-2)

@@ -7,41 +7,41 @@ use Rattle.text_references.proofs.Digits.{char_most, utf8_none, utf8_one, utf8_t
 use Rattle.text_references.proofs.encode.Statement.{statement}
 use Rattle.text_references.proofs.encode.Tie as tie
 
-is-character-requires : tie.Need-is-character-requires
+is-character-requires : tie.Need-is_character-requires
 is-character-requires c κs = search rules
 
-returns : tie.Need-returns
-returns c = rw (← utf8_none c.before.before.args.number (sym c.before.is-character.ensures ∙ not-true _ c.if1.true)) (record { size = refl; fields = refl })
+returns : tie.Need-returns-then-not-is_character
+returns c = rw (← utf8_none c.args.number (sym c.is_character.ensures ∙ not-true _ c.if-not-is_character.true-raw)) (record { size = refl; fields = refl })
 
 narrow-requires : tie.Need-narrow-requires
 narrow-requires c κs = search rules
 
-returns-2 : tie.Need-returns-2
-returns-2 c = rw (c.narrow.ensures, ← utf8_one c.before.before.before.before.args.number (sym c.before.before.before.is-character.ensures ∙ not-false _ c.before.before.if1.false) c.before.if2.true) (record { size = refl; fields = refl })
+returns-2 : tie.Need-returns-then-number-lt128
+returns-2 c = rw (c.narrow.ensures, ← utf8_one c.args.number (sym c.is_character.ensures ∙ not-false _ c.if-not-is_character.false-raw) c.if-number-lt128.true) (record { size = refl; fields = refl })
 
-later-byte-requires : tie.Need-later-byte-requires
+later-byte-requires : tie.Need-later_byte-last-requires
 later-byte-requires c κs = search rules
 
-add-narrow : tie.Need-overflow-add-narrow
+add-narrow : tie.Need-overflow_add-number
 add-narrow c = search rules
 
-narrow-requires-2 : tie.Need-narrow-requires-2
+narrow-requires-2 : tie.Need-narrow-requires-then-number-lt2048
 narrow-requires-2 c κs = search rules
 
-returns-3 : tie.Need-returns-3
-returns-3 c = rw (c.narrow2.ensures, c.before.before.later-byte.ensures, ← utf8_two c.before.before.before.before.before.before.args.number (sym c.before.before.before.before.before.is-character.ensures ∙ not-false _ c.before.before.before.before.if1.false) c.before.before.before.if2.false c.before.if3.true) (record { size = refl; fields = refl })
+returns-3 : tie.Need-returns-then-number-lt2048
+returns-3 c = rw (c.narrow-then-number-lt2048.ensures, c.later_byte-last.ensures, ← utf8_two c.args.number (sym c.is_character.ensures ∙ not-false _ c.if-not-is_character.false-raw) c.if-number-lt128.false c.if-number-lt2048.true) (record { size = refl; fields = refl })
 
-later-byte-requires-2 : tie.Need-later-byte-requires-2
+later-byte-requires-2 : tie.Need-later_byte-requires
 later-byte-requires-2 c κs = search rules
 
-encode-long-requires : tie.Need-encode-long-requires
-encode-long-requires c κs = char_most _ (sym c.before.before.before.before.before.is-character.ensures ∙ not-false _ c.before.before.before.before.if1.false)
+encode-long-requires : tie.Need-encode_long-requires
+encode-long-requires c κs = char_most _ (sym c.is_character.ensures ∙ not-false _ c.if-not-is_character.false-raw)
 
-returns-4 : tie.Need-returns-4
-returns-4 c = rw (← utf8_long c.before.before.before.before.before.before.before.args.number (sym c.before.before.before.before.before.before.is-character.ensures ∙ not-false _ c.before.before.before.before.before.if1.false) c.before.before.if3.false, ← c.before.later-byte2.ensures, ← c.before.before.before.later-byte.ensures) c.encode-long.ensures
+returns-4 : tie.Need-returns
+returns-4 c = rw (← utf8_long c.args.number (sym c.is_character.ensures ∙ not-false _ c.if-not-is_character.false-raw) c.if-number-lt2048.false, ← c.later_byte.ensures, ← c.later_byte-last.ensures) c.encode_long.ensures
 
-pub encode-spec : {M : Type 1} → statement M
-encode-spec =
+pub encode_spec : {M : Type 1} → statement M
+encode_spec =
     tie.close
     (tie.spec
     is-character-requires

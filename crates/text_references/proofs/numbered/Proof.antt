@@ -5,14 +5,17 @@ use mathlib.Core.Path.{sym, ◌∙◌}
 use Rattle.text_references.proofs.numbered.Statement.{statement}
 use Rattle.text_references.proofs.numbered.Tie as tie
 
-is-character-requires : tie.Need-is-character-requires
+is-character-requires : tie.Need-is_character-requires
 is-character-requires c κs = search rules
 
-returns : tie.Need-returns
-returns c = rw (sym c.before.is-character.ensures ∙ c.if1.true)
+returns : tie.Need-returns-then-is_character
+returns c = rw (sym c.is_character.ensures ∙ c.if-is_character.true)
 
-returns-2 : tie.Need-returns-2
-returns-2 c = rw (sym c.before.is-character.ensures ∙ c.if1.false)
+returns-2 : tie.Need-returns
+returns-2 c = rw (sym c.is_character.ensures ∙ c.if-is_character.false)
 
-pub numbered-spec : {M : Type 1} → statement M
-numbered-spec = tie.close (tie.spec is-character-requires returns returns-2)
+pub numbered_spec : {M : Type 1} → statement M
+numbered_spec = tie.close (tie.spec
+    is-character-requires
+    returns
+    returns-2)

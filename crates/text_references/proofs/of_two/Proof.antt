@@ -5,17 +5,21 @@ use borrow.Author.Tests.{eq-eqb, ne_eqb}
 use Rattle.text_references.proofs.of_two.Statement.{statement}
 use Rattle.text_references.proofs.of_two.Tie as tie
 
-returns : tie.Need-returns
-returns c = simp (ne_eqb _ _ c.if1.true)
+returns : tie.Need-returns-then-second-ne116
+returns c = simp (ne_eqb _ _ c.if-second-ne116.true)
 
-returns-2 : tie.Need-returns-2
-returns-2 c = simp (eq-eqb _ _ c.before.if1.false, eq-eqb _ _ c.if2.true)
+returns-2 : tie.Need-returns-then-first-eq108
+returns-2 c = simp (eq-eqb _ _ c.if-second-ne116.false, eq-eqb _ _ c.if-first-eq108.true)
 
-returns-3 : tie.Need-returns-3
-returns-3 c = simp (eq-eqb _ _ c.before.before.if1.false, ne_eqb _ _ c.before.if2.false, eq-eqb _ _ c.if3.true)
+returns-3 : tie.Need-returns-then-first-eq103
+returns-3 c = simp (eq-eqb _ _ c.if-second-ne116.false, ne_eqb _ _ c.if-first-eq108.false, eq-eqb _ _ c.if-first-eq103.true)
 
-returns-4 : tie.Need-returns-4
-returns-4 c = simp (eq-eqb _ _ c.before.before.if1.false, ne_eqb _ _ c.before.if2.false, ne_eqb _ _ c.if3.false)
+returns-4 : tie.Need-returns
+returns-4 c = simp (eq-eqb _ _ c.if-second-ne116.false, ne_eqb _ _ c.if-first-eq108.false, ne_eqb _ _ c.if-first-eq103.false)
 
-pub of-two-spec : {M : Type 1} → statement M
-of-two-spec = tie.close (tie.spec returns returns-2 returns-3 returns-4)
+pub of_two_spec : {M : Type 1} → statement M
+of_two_spec = tie.close (tie.spec
+    returns
+    returns-2
+    returns-3
+    returns-4)

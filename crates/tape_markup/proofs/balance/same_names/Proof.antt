@@ -4,22 +4,22 @@ use borrow.Author.Rules.{rules}
 use Rattle.tape_markup.proofs.balance.same_names.Statement.{statement}
 use Rattle.tape_markup.proofs.balance.same_names.Tie as tie
 
-sub_same : tie.Need-overflow-sub-same
+sub_same : tie.Need-slice_bounds-same-count
 sub_same c = search rules
 
-part-same-start : tie.Need-slice-bounds-same-start
+part-same-start : tie.Need-slice_bounds-same-start
 part-same-start c = search rules
 
-part-same-end : tie.Need-slice-bounds-same-end
+part-same-end : tie.Need-slice_bounds-same-end
 part-same-end c = search rules
 
-sub-same-2 : tie.Need-overflow-sub-same-2
+sub-same-2 : tie.Need-slice_bounds-same-count-2
 sub-same-2 c = search rules
 
-part-same-start-2 : tie.Need-slice-bounds-same-start-2
+part-same-start-2 : tie.Need-slice_bounds-same-start-2
 part-same-start-2 c = search rules
 
-part-same-end-2 : tie.Need-slice-bounds-same-end-2
+part-same-end-2 : tie.Need-slice_bounds-same-end-2
 part-same-end-2 c = search rules
 
 same-requires : tie.Need-same-requires
@@ -28,8 +28,8 @@ same-requires c κs = search rules
 returns : tie.Need-returns
 returns c = c.same.ensures
 
-pub same-names-spec : {M : Type 1} → statement M
-same-names-spec =
+pub same_names_spec : {M : Type 1} → statement M
+same_names_spec =
     tie.close
     (tie.spec
     sub_same

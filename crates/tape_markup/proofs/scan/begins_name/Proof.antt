@@ -6,29 +6,29 @@ use borrow.Author.Rules.{rules}
 use Rattle.tape_markup.proofs.scan.begins_name.Statement.{statement}
 use Rattle.tape_markup.proofs.scan.begins_name.Tie as tie
 
-is-between-requires : tie.Need-is-between-requires
+is-between-requires : tie.Need-is_between-requires
 is-between-requires c κs = search rules
 
-returns : tie.Need-returns
-returns c = simp (sym c.before.is-between.ensures ∙ c.if1.true)
+returns : tie.Need-returns-then-is_between
+returns c = simp (sym c.is_between.ensures ∙ c.if-is_between.true)
 
-is-between-requires-2 : tie.Need-is-between-requires-2
+is-between-requires-2 : tie.Need-is_between-requires-2
 is-between-requires-2 c κs = search rules
 
-returns-2 : tie.Need-returns-2
-returns-2 c = simp (sym c.before.before.before.is-between.ensures ∙ c.before.before.if1.false, sym c.before.is-between2.ensures ∙ c.if2.true)
+returns-2 : tie.Need-returns-then-is_between-2
+returns-2 c = simp (sym c.is_between.ensures ∙ c.if-is_between.false, sym c.is_between-2.ensures ∙ c.if-is_between-2.true)
 
-returns-3 : tie.Need-returns-3
-returns-3 c = simp (sym c.before.before.before.before.is-between.ensures ∙ c.before.before.before.if1.false, sym c.before.before.is-between2.ensures ∙ c.before.if2.false, eq-eqb _ _ c.if3.true)
+returns-3 : tie.Need-returns-then-byte-eq95
+returns-3 c = simp (sym c.is_between.ensures ∙ c.if-is_between.false, sym c.is_between-2.ensures ∙ c.if-is_between-2.false, eq-eqb _ _ c.if-byte-eq95.true)
 
-returns-4 : tie.Need-returns-4
-returns-4 c = simp (sym c.before.before.before.before.before.is-between.ensures ∙ c.before.before.before.before.if1.false, sym c.before.before.before.is-between2.ensures ∙ c.before.before.if2.false, ne_eqb _ _ c.before.if3.false, eq-eqb _ _ c.if4.true)
+returns-4 : tie.Need-returns-then-byte-eq58
+returns-4 c = simp (sym c.is_between.ensures ∙ c.if-is_between.false, sym c.is_between-2.ensures ∙ c.if-is_between-2.false, ne_eqb _ _ c.if-byte-eq95.false, eq-eqb _ _ c.if-byte-eq58.true)
 
-returns-5 : tie.Need-returns-5
-returns-5 c = simp (sym c.before.before.before.before.before.is-between.ensures ∙ c.before.before.before.before.if1.false, sym c.before.before.before.is-between2.ensures ∙ c.before.before.if2.false, ne_eqb _ _ c.before.if3.false, ne_eqb _ _ c.if4.false)
+returns-5 : tie.Need-returns
+returns-5 c = simp (sym c.is_between.ensures ∙ c.if-is_between.false, sym c.is_between-2.ensures ∙ c.if-is_between-2.false, ne_eqb _ _ c.if-byte-eq95.false, ne_eqb _ _ c.if-byte-eq58.false)
 
-pub begins-name-spec : {M : Type 1} → statement M
-begins-name-spec =
+pub begins_name_spec : {M : Type 1} → statement M
+begins_name_spec =
     tie.close
     (tie.spec
     is-between-requires

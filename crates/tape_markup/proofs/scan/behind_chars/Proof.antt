@@ -11,35 +11,35 @@ use borrow.Author.Rules.{rules}
 use Rattle.tape_markup.proofs.scan.behind_chars.Statement.{statement}
 use Rattle.tape_markup.proofs.scan.behind_chars.Tie as tie
 
-abbrev invariant-loop : tie.invariant-loop
+abbrev invariant-loop : tie.invariant-loop-i
 invariant-loop text at i₀ i = Fronted is_char text at i
 
-abbrev decreases-loop : tie.decreases-loop
+abbrev decreases-loop : tie.decreases-loop-i
 decreases-loop text at i₀ i = length text - i
 
-loop-holds : tie.Need-loop-init invariant-loop decreases-loop
+loop-holds : tie.Need-loop-i-init invariant-loop decreases-loop
 loop-holds c = fronted_none is_char _ _ (search rules)
 
-shared-slice-read-if1 : tie.Need-shared-slice-read-if1 invariant-loop decreases-loop
+shared-slice-read-if1 : tie.Need-bounds-text-i invariant-loop decreases-loop
 shared-slice-read-if1 c = search rules
 
-returns : tie.Need-returns invariant-loop decreases-loop
-returns c = fronted_ends is_char _ _ _ c.before.before.before.loop.invariant (search rules) (ap not (eq-eqb _ _ c.if1.true))
+returns : tie.Need-returns-then-text-i-eq60 invariant-loop decreases-loop
+returns c = fronted_ends is_char _ _ _ c.loop-i.invariant (search rules) (ap not (eq-eqb _ _ c.if-text-i-eq60.true))
 
-add-i : tie.Need-overflow-add-i invariant-loop decreases-loop
+add-i : tie.Need-overflow_add-i invariant-loop decreases-loop
 add-i c = search rules
 
-loop-less : tie.Need-loop-smaller invariant-loop decreases-loop
+loop-less : tie.Need-loop-i-smaller invariant-loop decreases-loop
 loop-less c = search rules
 
-loop-again : tie.Need-loop-preserved invariant-loop decreases-loop
-loop-again c = fronted_more is_char _ _ _ c.before.before.before.loop.invariant (search rules) (ap not (ne_eqb _ _ c.if1.false))
+loop-again : tie.Need-loop-i-preserved invariant-loop decreases-loop
+loop-again c = fronted_more is_char _ _ _ c.loop-i.invariant (search rules) (ap not (ne_eqb _ _ c.if-text-i-eq60.false))
 
-returns-2 : tie.Need-returns-2 invariant-loop decreases-loop
-returns-2 c = fronted_all is_char _ _ _ c.before.loop.invariant c.loop-test.false
+returns-2 : tie.Need-returns invariant-loop decreases-loop
+returns-2 c = fronted_all is_char _ _ _ c.loop-i.invariant c.loop-i-test.false
 
-pub behind-chars-spec : {M : Type 1} → statement M
-behind-chars-spec =
+pub behind_chars_spec : {M : Type 1} → statement M
+behind_chars_spec =
     tie.close
     (tie.spec
     invariant-loop

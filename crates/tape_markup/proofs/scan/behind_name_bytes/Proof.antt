@@ -10,38 +10,38 @@ use borrow.Author.Rules.{rules}
 use Rattle.tape_markup.proofs.scan.behind_name_bytes.Statement.{statement}
 use Rattle.tape_markup.proofs.scan.behind_name_bytes.Tie as tie
 
-abbrev invariant-loop : tie.invariant-loop
+abbrev invariant-loop : tie.invariant-loop-i
 invariant-loop text at i₀ i = Fronted in_name text at i
 
-abbrev decreases-loop : tie.decreases-loop
+abbrev decreases-loop : tie.decreases-loop-i
 decreases-loop text at i₀ i = length text - i
 
-loop-holds : tie.Need-loop-init invariant-loop decreases-loop
+loop-holds : tie.Need-loop-i-init invariant-loop decreases-loop
 loop-holds c = fronted_none in_name _ _ (search rules)
 
-shared-slice-read-in-name : tie.Need-shared-slice-read-in-name invariant-loop decreases-loop
+shared-slice-read-in-name : tie.Need-bounds-text-i invariant-loop decreases-loop
 shared-slice-read-in-name c = search rules
 
-in-name-requires : tie.Need-in-name-requires invariant-loop decreases-loop
+in-name-requires : tie.Need-in_name-requires invariant-loop decreases-loop
 in-name-requires c κs = search rules
 
-returns : tie.Need-returns invariant-loop decreases-loop
-returns c = fronted_ends in_name _ _ _ c.before.before.before.before.loop.invariant (search rules) (sym c.before.in-name.ensures ∙ not-true _ c.if1.true)
+returns : tie.Need-returns-then-not-in_name invariant-loop decreases-loop
+returns c = fronted_ends in_name _ _ _ c.loop-i.invariant (search rules) (sym c.in_name.ensures ∙ not-true _ c.if-not-in_name.true-raw)
 
-add-i : tie.Need-overflow-add-i invariant-loop decreases-loop
+add-i : tie.Need-overflow_add-i invariant-loop decreases-loop
 add-i c = search rules
 
-loop-less : tie.Need-loop-smaller invariant-loop decreases-loop
+loop-less : tie.Need-loop-i-smaller invariant-loop decreases-loop
 loop-less c = search rules
 
-loop-again : tie.Need-loop-preserved invariant-loop decreases-loop
-loop-again c = fronted_more in_name _ _ _ c.before.before.before.before.loop.invariant (search rules) (sym c.before.in-name.ensures ∙ not-false _ c.if1.false)
+loop-again : tie.Need-loop-i-preserved invariant-loop decreases-loop
+loop-again c = fronted_more in_name _ _ _ c.loop-i.invariant (search rules) (sym c.in_name.ensures ∙ not-false _ c.if-not-in_name.false-raw)
 
-returns-2 : tie.Need-returns-2 invariant-loop decreases-loop
-returns-2 c = fronted_all in_name _ _ _ c.before.loop.invariant c.loop-test.false
+returns-2 : tie.Need-returns invariant-loop decreases-loop
+returns-2 c = fronted_all in_name _ _ _ c.loop-i.invariant c.loop-i-test.false
 
-pub behind-name-bytes-spec : {M : Type 1} → statement M
-behind-name-bytes-spec =
+pub behind_name_bytes_spec : {M : Type 1} → statement M
+behind_name_bytes_spec =
     tie.close
     (tie.spec
     invariant-loop

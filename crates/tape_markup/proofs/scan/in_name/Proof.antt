@@ -6,25 +6,31 @@ use borrow.Author.Rules.{rules}
 use Rattle.tape_markup.proofs.scan.in_name.Statement.{statement}
 use Rattle.tape_markup.proofs.scan.in_name.Tie as tie
 
-begins-name-requires : tie.Need-begins-name-requires
+begins-name-requires : tie.Need-begins_name-requires
 begins-name-requires c κs = search rules
 
-returns : tie.Need-returns
-returns c = simp (sym c.before.begins-name.ensures ∙ c.if1.true)
+returns : tie.Need-returns-then-begins_name
+returns c = simp (sym c.begins_name.ensures ∙ c.if-begins_name.true)
 
-is-between-requires : tie.Need-is-between-requires
+is-between-requires : tie.Need-is_between-requires
 is-between-requires c κs = search rules
 
-returns-2 : tie.Need-returns-2
-returns-2 c = simp (sym c.before.before.before.begins-name.ensures ∙ c.before.before.if1.false, sym c.before.is-between.ensures ∙ c.if2.true)
+returns-2 : tie.Need-returns-then-is_between
+returns-2 c = simp (sym c.begins_name.ensures ∙ c.if-begins_name.false, sym c.is_between.ensures ∙ c.if-is_between.true)
 
-returns-3 : tie.Need-returns-3
-returns-3 c = simp (sym c.before.before.before.before.begins-name.ensures ∙ c.before.before.before.if1.false, sym c.before.before.is-between.ensures ∙ c.before.if2.false, eq-eqb _ _ c.if3.true)
+returns-3 : tie.Need-returns-then-byte-eq45
+returns-3 c = simp (sym c.begins_name.ensures ∙ c.if-begins_name.false, sym c.is_between.ensures ∙ c.if-is_between.false, eq-eqb _ _ c.if-byte-eq45.true)
 
-returns-4 : tie.Need-returns-4
-returns-4 c = simp (sym c.before.before.before.before.begins-name.ensures ∙ c.before.before.before.if1.false, sym c.before.before.is-between.ensures ∙ c.before.if2.false, ne_eqb _ _ c.if3.false)
+returns-4 : tie.Need-returns
+returns-4 c = simp (sym c.begins_name.ensures ∙ c.if-begins_name.false, sym c.is_between.ensures ∙ c.if-is_between.false, ne_eqb _ _ c.if-byte-eq45.false)
 
-pub in-name-spec : {M : Type 1} → statement M
-in-name-spec =
+pub in_name_spec : {M : Type 1} → statement M
+in_name_spec =
     tie.close
-    (tie.spec begins-name-requires returns is-between-requires returns-2 returns-3 returns-4)
+    (tie.spec
+    begins-name-requires
+    returns
+    is-between-requires
+    returns-2
+    returns-3
+    returns-4)

@@ -4,11 +4,13 @@ use borrow.Author.Tests.{eq-eqb, ne_eqb}
 use Rattle.tape_markup.proofs.scan.is_bare.Statement.{statement}
 use Rattle.tape_markup.proofs.scan.is_bare.Tie as tie
 
-returns : tie.Need-returns
-returns c = simp (ne_eqb _ _ c.if1.true)
+returns : tie.Need-returns-then-quote-ne0
+returns c = simp (ne_eqb _ _ c.if-quote-ne0.true)
 
-returns-2 : tie.Need-returns-2
-returns-2 c = simp (eq-eqb _ _ c.if1.false)
+returns-2 : tie.Need-returns
+returns-2 c = simp (eq-eqb _ _ c.if-quote-ne0.false)
 
-pub is-bare-spec : {M : Type 1} → statement M
-is-bare-spec = tie.close (tie.spec returns returns-2)
+pub is_bare_spec : {M : Type 1} → statement M
+is_bare_spec = tie.close (tie.spec
+    returns
+    returns-2)

@@ -5,46 +5,46 @@ use borrow.Author.Rules.{rules}
 use Rattle.tape_markup.proofs.tokens.end_tag.Statement.{statement}
 use Rattle.tape_markup.proofs.tokens.end_tag.Tie as tie
 
-add-from : tie.Need-overflow-add-from
+add-from : tie.Need-overflow_add-from
 add-from c = search rules
 
-behind-name-requires : tie.Need-behind-name-requires
+behind-name-requires : tie.Need-behind_name-to-requires
 behind-name-requires c κs = search rules
 
-returns : tie.Need-returns
+returns : tie.Need-returns-then-from-to
 returns c =
-    close_none c.before.before.before.args.text.now c.before.before.before.args.at _ _ c.before.behind-name.ensures.0
-    c.if1.true
+    close_none c.args.text.now c.args.at _ _ c.behind_name-to.ensures.0
+    c.if-from-to.true
 
-behind-blanks-requires : tie.Need-behind-blanks-requires
+behind-blanks-requires : tie.Need-behind_blanks-end-requires
 behind-blanks-requires c κs = search rules
 
-returns-2 : tie.Need-returns-2
+returns-2 : tie.Need-returns-then-end-text
 returns-2 c =
-    close_over c.before.before.before.before.before.args.text.now c.before.before.before.before.before.args.at _ _
-    c.before.before.before.behind-name.ensures.0 _ c.before.before.if1.false c.before.behind-blanks.ensures.0
+    close_over c.args.text.now c.args.at _ _
+    c.behind_name-to.ensures.0 _ c.if-from-to.false c.behind_blanks-end.ensures.0
     (search rules)
 
-shared-slice-read-if3 : tie.Need-shared-slice-read-if3
+shared-slice-read-if3 : tie.Need-bounds-text-end
 shared-slice-read-if3 c = search rules
 
-returns-3 : tie.Need-returns-3
+returns-3 : tie.Need-returns-then-text-end-ne62
 returns-3 c =
-    close_other c.before.before.before.before.before.before.before.args.text.now c.before.before.before.before.before.before.before.args.at _ _
-    c.before.before.before.before.before.behind-name.ensures.0 _ c.before.before.before.before.if1.false
-    c.before.before.before.behind-blanks.ensures.0 c.if3.true
+    close_other c.args.text.now c.args.at _ _
+    c.behind_name-to.ensures.0 _ c.if-from-to.false
+    c.behind_blanks-end.ensures.0 c.if-text-end-ne62.true
 
-add-t7 : tie.Need-overflow-add-t7
+add-t7 : tie.Need-overflow_add-result
 add-t7 c = search rules
 
-returns-4 : tie.Need-returns-4
+returns-4 : tie.Need-returns
 returns-4 c =
-    close_step c.before.before.before.before.before.before.before.args.text.now c.before.before.before.before.before.before.before.args.at _ _
-    c.before.before.before.before.before.behind-name.ensures.0 _ c.before.before.before.before.if1.false
-    c.before.before.before.behind-blanks.ensures.0 c.if3.false
+    close_step c.args.text.now c.args.at _ _
+    c.behind_name-to.ensures.0 _ c.if-from-to.false
+    c.behind_blanks-end.ensures.0 c.if-text-end-ne62.false
 
-pub end-tag-spec : {M : Type 1} → statement M
-end-tag-spec =
+pub end_tag_spec : {M : Type 1} → statement M
+end_tag_spec =
     tie.close
     (tie.spec
     add-from

@@ -7,20 +7,25 @@ use native.Mathlib.Omega.{arith}
 use Rattle.tape_markup.proofs.tokens.is_alone.Statement.{statement}
 use Rattle.tape_markup.proofs.tokens.is_alone.Tie as tie
 
-sub-if1 : tie.Need-overflow-sub-if1
+sub-if1 : tie.Need-overflow_sub-end
 sub-if1 c = search rules
 
-returns : tie.Need-returns
-returns c = simp (le-ltb 1 (c.before.args.end - c.before.args.to) (omega arith))
+returns : tie.Need-returns-then-end-to-lt2
+returns c = simp (le-ltb 1 (c.args.end - c.args.to) (omega arith))
 
-sub-result : tie.Need-overflow-sub-result
+sub-result : tie.Need-overflow_sub-result
 sub-result c = search rules
 
-shared-slice-read-result : tie.Need-shared-slice-read-result
+shared-slice-read-result : tie.Need-bounds-text-end
 shared-slice-read-result c = search rules
 
-returns-2 : tie.Need-returns-2
-returns-2 c = simp (lt-ltb 1 (c.before.before.args.end - c.before.before.args.to) (omega arith))
+returns-2 : tie.Need-returns
+returns-2 c = simp (lt-ltb 1 (c.args.end - c.args.to) (omega arith))
 
-pub is-alone-spec : {M : Type 1} → statement M
-is-alone-spec = tie.close (tie.spec sub-if1 returns sub-result shared-slice-read-result returns-2)
+pub is_alone_spec : {M : Type 1} → statement M
+is_alone_spec = tie.close (tie.spec
+    sub-if1
+    returns
+    sub-result
+    shared-slice-read-result
+    returns-2)

@@ -5,33 +5,33 @@ use borrow.Author.Rules.{rules}
 use Rattle.tape_markup.proofs.tokens.step_from.Statement.{statement}
 use Rattle.tape_markup.proofs.tokens.step_from.Tie as tie
 
-enum-known-place : tie.Need-enum-known-place
+enum-known-place : tie.Need-enum_known-place
 enum-known-place c = search rules
 
-text-step-requires : tie.Need-text-step-requires
+text-step-requires : tie.Need-text_step-requires
 text-step-requires c κs = search rules
 
-enum-known-place-2 : tie.Need-enum-known-place-2
+enum-known-place-2 : tie.Need-enum_known-place-in-Plain-1
 enum-known-place-2 c = search rules
 
-plain-step-requires : tie.Need-plain-step-requires
+plain-step-requires : tie.Need-plain_step-requires
 plain-step-requires c κs = search rules
 
-enum-known-place-3 : tie.Need-enum-known-place-3
+enum-known-place-3 : tie.Need-enum_known-place-in-Shut-1
 enum-known-place-3 c = search rules
 
-returns : tie.Need-returns
-returns c = rw c.before.before.place.given.1 c.text-step.ensures
+returns : tie.Need-returns-in-Text
+returns c = rw c.in-Text.is c.text_step.ensures
 
-returns-2 : tie.Need-returns-2
-returns-2 c = rw c.before.before.place2.given.1 c.plain_step.ensures
+returns-2 : tie.Need-returns-in-Plain
+returns-2 c = rw c.in-Plain.is c.plain_step.ensures
 
-returns-3 : tie.Need-returns-3
+returns-3 : tie.Need-returns-in-Shut
 unfolding step_at
-returns-3 c = rw c.before.place3.given.1
+returns-3 c = rw c.in-Shut.is
 
-pub step-from-spec : {M : Type 1} → statement M
-step-from-spec =
+pub step_from_spec : {M : Type 1} → statement M
+step_from_spec =
     tie.close
     (tie.spec
     enum-known-place
