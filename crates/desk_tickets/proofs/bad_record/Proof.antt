@@ -20,7 +20,7 @@ is-empty-requires : tie.Need-is_empty-requires
 is-empty-requires c κs = search rules
 
 returns : tie.Need-returns-then-is_empty
-returns c = let a = c.args in bad_not_empty a.lasts a.t1 a.i (sym c.is_empty.ensures ∙ c.if-is_empty.true)
+returns c = let a = c.args in bad_not_empty a.lasts a.row a.i (sym c.is_empty.ensures ∙ c.if-is_empty.true)
 
 office-at-requires : tie.Need-office_at-office-requires
 office-at-requires c κs = search rules
@@ -41,10 +41,10 @@ start e = e.before.before.before
 abbrev tested : tie.After-is_ticket → tie.Else-is_empty
 tested t = t.before.before.before
 
-full : (e : tie.Else-is_empty) → is_empty_place (get_or (start e).args.t1 (start e).args.i no_ticket) ≡ false
+full : (e : tie.Else-is_empty) → is_empty_place (get_or (start e).args.row (start e).args.i no_ticket) ≡ false
 full e = sym e.is_empty.ensures ∙ e.if-is_empty.false
 
-ticket : (b : Bool) (t : tie.After-is_ticket) → t.is_ticket.result ≡ b → isTicketHere (start (tested t)).args.lasts (start (tested t)).args.t1 (start (tested t)).args.i ≡ b
+ticket : (b : Bool) (t : tie.After-is_ticket) → t.is_ticket.result ≡ b → isTicketHere (start (tested t)).args.lasts (start (tested t)).args.row (start (tested t)).args.i ≡ b
 ticket b t e = rw (← t.office_at-office.ensures, ← t.last_of-last.ensures) (sym t.is_ticket.ensures ∙ e)
 
 returns-2 : tie.Need-returns-then-is_first_place
@@ -52,7 +52,7 @@ returns-2 c =
     let t = c in
     let e = tested t.before.before.before in
     let a = (start e).args in
-    bad_first a.lasts a.t1 a.i (full e) (ticket true t.before.before.before c.if-is_ticket.true) (sym c.is_first_place.ensures ∙ c.if-is_first_place.true)
+    bad_first a.lasts a.row a.i (full e) (ticket true t.before.before.before c.if-is_ticket.true) (sym c.is_first_place.ensures ∙ c.if-is_first_place.true)
 
 sub-ahead : tie.Need-overflow_sub-ahead
 sub-ahead c = let s = start (tested c.before.before.before) in let h = behind_another s.args.i (sym c.is_first_place.ensures ∙ c.if-is_first_place.false) in omega arith
@@ -72,14 +72,14 @@ returns-3 c =
     let t = d in
     let e = tested t.before.before.before.before.before in
     let a = (start e).args in
-    bad_behind a.lasts a.t1 a.i (full e) (ticket true t.before.before.before.before.before d.if-is_ticket.true) (sym d.is_first_place.ensures ∙ d.if-is_first_place.false) c.follows_on.ensures
+    bad_behind a.lasts a.row a.i (full e) (ticket true t.before.before.before.before.before d.if-is_ticket.true) (sym d.is_first_place.ensures ∙ d.if-is_first_place.false) c.follows_on.ensures
 
 returns-4 : tie.Need-returns
 returns-4 c =
     let t = c in
     let e = tested t.before in
     let a = (start e).args in
-    bad_not_ticket a.lasts a.t1 a.i (full e) (ticket false t.before c.if-is_ticket.false)
+    bad_not_ticket a.lasts a.row a.i (full e) (ticket false t.before c.if-is_ticket.false)
 
 pub bad_record_spec : {M : Type 1} → statement M
 bad_record_spec =

@@ -18,7 +18,7 @@ invariant-loop office row first n₀ n = CountedAt office first row n
 abbrev decreases-loop : tie.decreases-loop-n
 decreases-loop office row first n₀ n = 16 - n
 
-long : (s : tie.Start invariant-loop decreases-loop) → length s.args.t1 ≡ 32
+long : (s : tie.Start invariant-loop decreases-loop) → length s.args.row ≡ 32
 long s = search rules
 
 first-place-requires : tie.Need-first_place-first-requires invariant-loop decreases-loop
@@ -27,7 +27,7 @@ first-place-requires c κs = search rules
 loop-holds : tie.Need-loop-n-init invariant-loop decreases-loop
 loop-holds c =
     let s = c in
-    record { begins = c.first_place-first.ensures; in_row = rw c.first_place-first.ensures (first_place_within s.args.office); so_far = counted_none (places_from c.first_place-first.result s.args.t1) }
+    record { begins = c.first_place-first.ensures; in_row = rw c.first_place-first.ensures (first_place_within s.args.office); so_far = counted_none (places_from c.first_place-first.result s.args.row) }
 
 add-t : tie.Need-overflow_add-t invariant-loop decreases-loop
 add-t c = omega (arith, c.loop-n.invariant.in_row)
@@ -46,7 +46,7 @@ abbrev at : tie.After-is_empty invariant-loop decreases-loop → tie.At-loop-n i
 at e = e.before.before.before
 
 abbrev row : tie.At-loop-n invariant-loop decreases-loop → mathlib.Core.List.List Ticket
-row a = a.args.t1
+row a = a.args.row
 
 abbrev first : tie.At-loop-n invariant-loop decreases-loop → Prim.Native.Nat.ℕ
 first a = a.first_place-first.result

@@ -18,7 +18,7 @@ invariant-loop office number row first n i₀ i = Sought number (waiting office 
 abbrev decreases-loop : tie.decreases-loop-i
 decreases-loop office number row first n i₀ i = n - i
 
-long : (s : tie.Start invariant-loop decreases-loop) → length s.args.t1 ≡ 32
+long : (s : tie.Start invariant-loop decreases-loop) → length s.args.row ≡ 32
 long s = search rules
 
 first-place-requires : tie.Need-first_place-first-requires invariant-loop decreases-loop
@@ -28,28 +28,28 @@ count-waiting-requires : tie.Need-count_waiting-n-requires invariant-loop decrea
 count-waiting-requires c κs = search rules
 
 loop-holds : tie.Need-loop-i-init invariant-loop decreases-loop
-loop-holds c = let a = c.args in sought_none a.number (waiting a.office a.t1)
+loop-holds c = let a = c.args in sought_none a.number (waiting a.office a.row)
 
 -- In a turn: the ticket looked at is one of those that wait, and stands in the row.
 abbrev start : tie.In-loop-i invariant-loop decreases-loop → tie.Start invariant-loop decreases-loop
 start c = c.before.before.before.before
 
-below : (c : tie.In-loop-i invariant-loop decreases-loop) → c.loop-i.i < length (waiting (start c).args.office (start c).args.t1)
+below : (c : tie.In-loop-i invariant-loop decreases-loop) → c.loop-i.i < length (waiting (start c).args.office (start c).args.row)
 below c = rw c.count_waiting-n.ensures at c.loop-i-test.true
 
 place : (c : tie.In-loop-i invariant-loop decreases-loop) → c.first_place-first.result + c.loop-i.i < 32
 place c =
     let s = start c in
-    let few = waiting_few s.args.office s.args.t1 (long s) in
+    let few = waiting_few s.args.office s.args.row (long s) in
     let first = first_place_within s.args.office in
     rw c.first_place-first.ensures (omega (arith, below c))
 
 here : (c : tie.In-loop-i invariant-loop decreases-loop)
-    → get_or (start c).args.t1 (c.first_place-first.result + c.loop-i.i) no_ticket ≡ get_or (waiting (start c).args.office (start c).args.t1) c.loop-i.i no_ticket
+    → get_or (start c).args.row (c.first_place-first.result + c.loop-i.i) no_ticket ≡ get_or (waiting (start c).args.office (start c).args.row) c.loop-i.i no_ticket
 here c =
     let s = start c in
-    ap (λ p. get_or s.args.t1 (p + c.loop-i.i) no_ticket) c.first_place-first.ensures
-    ∙ waiting_at s.args.office s.args.t1 (long s) c.loop-i.i (below c)
+    ap (λ p. get_or s.args.row (p + c.loop-i.i) no_ticket) c.first_place-first.ensures
+    ∙ waiting_at s.args.office s.args.row (long s) c.loop-i.i (below c)
 
 add-t : tie.Need-overflow_add-t invariant-loop decreases-loop
 add-t c = omega (arith, place c)
@@ -64,7 +64,7 @@ returns : tie.Need-returns-then-t-number invariant-loop decreases-loop
 returns c =
     let l = c in
     let a = (start l.before.before.before).args in
-    sought_here a.number (waiting a.office a.t1) l.loop-i.i l.loop-i.invariant (below l.before.before.before) (rw (← here l.before.before.before) (eq-eqb _ _ c.if-t-number.true))
+    sought_here a.number (waiting a.office a.row) l.loop-i.i l.loop-i.invariant (below l.before.before.before) (rw (← here l.before.before.before) (eq-eqb _ _ c.if-t-number.true))
 
 add-i : tie.Need-overflow_add-i invariant-loop decreases-loop
 add-i c = search rules
@@ -76,14 +76,14 @@ loop-again : tie.Need-loop-i-preserved invariant-loop decreases-loop
 loop-again c =
     let l = c in
     let a = (start l.before.before.before).args in
-    sought_more a.number (waiting a.office a.t1) l.loop-i.i l.loop-i.invariant (below l.before.before.before) (rw (← here l.before.before.before) (ne_eqb _ _ c.if-t-number.false))
+    sought_more a.number (waiting a.office a.row) l.loop-i.i l.loop-i.invariant (below l.before.before.before) (rw (← here l.before.before.before) (ne_eqb _ _ c.if-t-number.false))
 
 returns-2 : tie.Need-returns invariant-loop decreases-loop
 returns-2 c =
     let n = c in
     let a = n.args in
     n.count_waiting-n.ensures
-    ∙ sought_all a.number (waiting a.office a.t1) c.loop-i.i c.loop-i.invariant (rw n.count_waiting-n.ensures at c.loop-i-test.false)
+    ∙ sought_all a.number (waiting a.office a.row) c.loop-i.i c.loop-i.invariant (rw n.count_waiting-n.ensures at c.loop-i-test.false)
 
 pub index_of_spec : {M : Type 1} → statement M
 index_of_spec =

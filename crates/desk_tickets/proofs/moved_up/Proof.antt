@@ -8,7 +8,7 @@ use borrow.Author.Rules.{rules}
 use Rattle.desk_tickets.proofs.moved_up.Statement.{statement}
 use Rattle.desk_tickets.proofs.moved_up.Tie as tie
 
-long : (s : tie.Start) → length s.args.t1 ≡ 32
+long : (s : tie.Start) → length s.args.row ≡ 32
 long s = search rules
 
 add-result : tie.Need-overflow_add-result
@@ -24,7 +24,7 @@ returns : tie.Need-returns-then-i-p
 returns c =
     let s = c in
     let a = s.args in
-    kept_here a.first a.t1 s.requires.0 (long s.before.before) a.p a.n a.i c.if-i-p.true s.requires.1
+    kept_here a.first a.row s.requires.0 (long s.before.before) a.p a.n a.i c.if-i-p.true s.requires.1
 
 sub-if3 : tie.Need-overflow_sub-n
 sub-if3 c = search rules
@@ -47,21 +47,21 @@ returns-2 c =
     let e = t in
     let s = e in
     let a = s.args in
-    moved_here a.first a.t1 s.requires.0 (long s.before.before.before.before) a.p a.n a.i e.if-i-p.false (omega (arith, t.if-i-n.true, t.if-n-lt-PLACES.true))
+    moved_here a.first a.row s.requires.0 (long s.before.before.before.before) a.p a.n a.i e.if-i-p.false (omega (arith, t.if-i-n.true, t.if-n-lt-PLACES.true))
 
 returns-3 : tie.Need-returns-else-i-n
 returns-3 c =
     let e = c in
     let s = e in
     let a = s.args in
-    none_left a.first a.t1 s.requires.0 (long s.before.before.before) a.p a.n a.i e.if-i-p.false s.requires.1 (omega (arith, c.if-i-n.false, c.if-n-lt-PLACES.true))
+    none_left a.first a.row s.requires.0 (long s.before.before.before) a.p a.n a.i e.if-i-p.false s.requires.1 (omega (arith, c.if-i-n.false, c.if-n-lt-PLACES.true))
 
 returns-4 : tie.Need-returns-else-n-lt-PLACES
 returns-4 c =
     let e = c in
     let s = e in
     let a = s.args in
-    none_left a.first a.t1 s.requires.0 (long s.before.before) a.p a.n a.i e.if-i-p.false s.requires.1 (omega (arith, c.if-n-lt-PLACES.false))
+    none_left a.first a.row s.requires.0 (long s.before.before) a.p a.n a.i e.if-i-p.false s.requires.1 (omega (arith, c.if-n-lt-PLACES.false))
 
 pub moved_up_spec : {M : Type 1} → statement M
 moved_up_spec =

@@ -76,7 +76,7 @@ joins-next-requires : tie.Need-joins_next-same-requires invariant-loop decreases
 joins-next-requires c κs = ((good (begin c.before)).fit, at-want c)
 
 mul-stop-place : tie.Need-offset_bounds-numbers-i invariant-loop decreases-loop
-mul-stop-place c = scaled_Fits _ _ _ (at-want c.before) (begin c.before.before).good.1.1.1.0.1
+mul-stop-place c = scaled_Fits _ _ _ (at-want c.before) (begin c.before.before).well_formed.1.1.1.0.1
 
 shared-slice-read-stop-place : tie.Need-bounds-numbers-i invariant-loop decreases-loop
 shared-slice-read-stop-place c = at-want c.before.before
@@ -134,7 +134,7 @@ slice-write-spans c =
     stop-in _ _ _ _ (at_room c) l.loop-i.invariant.spans.same (begin l).requires.1.1.1.0
 
 mul-reads : tie.Need-offset_bounds-counts-i invariant-loop decreases-loop
-mul-reads c = scaled_Fits _ _ _ (at-want c.before.before.before.before) (begin (at-loop c)).good.1.1.1.0.1
+mul-reads c = scaled_Fits _ _ _ (at-want c.before.before.before.before) (begin (at-loop c)).well_formed.1.1.1.0.1
 
 shared-slice-read-reads : tie.Need-bounds-counts-i invariant-loop decreases-loop
 shared-slice-read-reads c =

@@ -112,7 +112,7 @@ returns-3 c =
     let s = start e.before.before.before.before.before.before.before.before.before.before in
     let filled = z.fill.ensures in
     let so = rows_accepted (run s) (rows s) _ _ e.judge-run.ensures e.refused.ensures
-    _ (all-counted n.before.before.before.before.before.before.before.before.before) _ t.short_rows.ensures _ _ t.refuse_if-rows.ensures d.refused-2.ensures e.if-refused.left d.if-refused-2.left
+    _ (all-counted n.before.before.before.before.before.before.before.before.before) _ t.short_rows.ensures _ _ t.refuse_if-rows.ensures d.refused-2.ensures e.if-refused.false d.if-refused-2.false
     _ (four_rows_lem filled.0 filled.1.0 filled.1.1.0 filled.1.1.1)
     in
     (so.says, so.rows)

@@ -13,40 +13,46 @@ use Rattle.walk.proofs.AnyHead.{own_joined, uneven_same, any_list}
 use Rattle.walk.proofs.any_head.judge_list_any.Statement.{statement}
 use Rattle.walk.proofs.any_head.judge_list_any.Tie as tie
 
-judge-list-requires : tie.Need-judge-list-requires
+judge-list-requires : tie.Need-judge_list-list-requires
 judge-list-requires c κs = search rules
 
 -- The way back from a place in the code to the one that the name says.
-abbrev at-start : tie.After-judge-list → tie.Start
+abbrev at-start : tie.After-judge_list-list → tie.Start
 at-start c = c.before.before.before.before.before.before
 
-returns : tie.Need-returns
+returns : tie.Need-returns-then-froms-tos
 returns c =
     let a = (at-start c.before).args in
-    λ l cs e up. c.before.judge-list.ensures a.starts.now l cs e ∙ uneven_same a.head _ a.froms.now a.tos.now c.if1.true
+    λ l cs e up. c.judge_list-list.ensures a.starts.now l cs e ∙ uneven_same a.head _ a.froms.now a.tos.now c.if-froms-tos.true
 
-own-stop-requires : tie.Need-own-stop-requires
+own-stop-requires : tie.Need-own_stop-own-requires
 own-stop-requires c κs = (at-start c.before).requires
 
-first-past-requires : tie.Need-first-past-requires
+first-past-requires : tie.Need-first_past-requires
 first-past-requires c κs = search rules
 
-refuse-at-requires : tie.Need-refuse-at-requires
+refuse-at-requires : tie.Need-refuse_at-requires
 refuse-at-requires c κs = search rules
 
-returns-2 : tie.Need-returns-2
+returns-2 : tie.Need-returns
 returns-2 c =
-    let f = c.before in
-    let o = f.before in
-    let j = o.before.before in
-    let a = (at-start j).args in
+    let f = c in
+    let o = f in
+    let j = o in
+    let a = (at-start j.before.before.before.before).args in
     λ l cs e up.
-    c.refuse-at.ensures
+    c.refuse_at.ensures
     ∙ ap (λ p. refuse_at p BadEntry)
-    (f.first_past.ensures ∙ ap (λ v. earlier_of v.place (first_where (λ i. ltb o.own-stop.result (get_or a.froms.now i 0)) (length a.froms.now))) (j.judge-list.ensures a.starts.now l cs e))
-    ∙ any_list a.head _ a.froms.now a.tos.now o.before.if1.false o.own-stop.result
-    (o.own-stop.ensures l cs e ∙ sym (own_joined a.head _ (wants_agree a.starts.now l a.aggregates.now a.numbers.now cs))) up
-    (λ i h. omega (arith, j.before.before.shared-slice-known4.given i))
+    (f.first_past.ensures ∙ ap (λ v. earlier_of v.place (first_where (λ i. ltb o.own_stop-own.result (get_or a.froms.now i 0)) (length a.froms.now))) (j.judge_list-list.ensures a.starts.now l cs e))
+    ∙ any_list a.head _ a.froms.now a.tos.now o.if-froms-tos.false o.own_stop-own.result
+    (o.own_stop-own.ensures l cs e ∙ sym (own_joined a.head _ (wants_agree a.starts.now l a.aggregates.now a.numbers.now cs))) up
+    (λ i h. omega (arith, j.shared_slice_known-4-1.given i))
 
-pub judge-list-any-spec : {M : Type 1} → statement M
-judge-list-any-spec = tie.close (tie.spec judge-list-requires returns own-stop-requires first-past-requires refuse-at-requires returns-2)
+pub judge_list_any_spec : {M : Type 1} → statement M
+judge_list_any_spec = tie.close (tie.spec
+    judge-list-requires
+    returns
+    own-stop-requires
+    first-past-requires
+    refuse-at-requires
+    returns-2)

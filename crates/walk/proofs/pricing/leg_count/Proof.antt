@@ -5,14 +5,17 @@ use borrow.Author.Rules.{rules}
 use Rattle.walk.proofs.pricing.leg_count.Statement.{statement}
 use Rattle.walk.proofs.pricing.leg_count.Tie as tie
 
-returns : tie.Need-returns
-returns c = λ m s l a tos reach even. no_legs_lem m s l a _ _ tos reach even c.if1.true c.before.requires
+returns : tie.Need-returns-then-numbers-eq0
+returns c = λ m s l a tos reach even. no_legs_lem m s l a _ _ tos reach even c.if-numbers-eq0.true c.requires
 
-add-result : tie.Need-overflow-add-result
+add-result : tie.Need-overflow_add-result
 add-result c = search rules
 
-returns-2 : tie.Need-returns-2
-returns-2 c = λ m s l a tos reach even. legs_count m s l a _ _ tos reach even c.if1.false
+returns-2 : tie.Need-returns
+returns-2 c = λ m s l a tos reach even. legs_count m s l a _ _ tos reach even c.if-numbers-eq0.false
 
-pub leg-count-spec : {M : Type 1} → statement M
-leg-count-spec = tie.close (tie.spec returns add-result returns-2)
+pub leg_count_spec : {M : Type 1} → statement M
+leg_count_spec = tie.close (tie.spec
+    returns
+    add-result
+    returns-2)

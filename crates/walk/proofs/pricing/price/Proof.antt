@@ -26,7 +26,7 @@ lent s = read_rows s.args.times.now s.args.legs.now
 abbrev parts : tie.Start → Parts
 parts s = priceParts (run s) s.args.froms.now s.args.tos.now (lent s)
 
-judge-requires : tie.Need-judge-requires
+judge-requires : tie.Need-judge-run-requires
 judge-requires c κs = search rules
 
 refused-requires : tie.Need-refused-requires
@@ -36,119 +36,119 @@ refuse-requires : tie.Need-refuse-requires
 refuse-requires c κs = search rules
 
 -- The way back from a place in the code to the one that the name says.
-abbrev at-start : tie.After-judge → tie.Start
+abbrev at-start : tie.After-judge-run → tie.Start
 at-start c = c.before.before.before.before.before.before.before.before.before.before
 
-returns : tie.Need-returns
+returns : tie.Need-returns-then-refused
 returns c =
-    let j = c.before.before.before in
-    let s = at-start j in
+    let j = c in
+    let s = at-start j.before.before.before in
     price_answers (run s) s.args.froms.now s.args.tos.now (lent s) _ _
-    (run_refused (parts s) _ _ j.judge.ensures c.before.before.refused.ensures c.before.if1.true _ c.refuse.ensures)
+    (run_refused (parts s) _ _ j.judge-run.ensures c.refused.ensures c.if-refused.true _ c.refuse.ensures)
 
-judge-list-requires : tie.Need-judge-list-requires
+judge-list-requires : tie.Need-judge_list-list-requires
 judge-list-requires c κs = search rules
 
 refused-requires-2 : tie.Need-refused-requires-2
 refused-requires-2 c κs = search rules
 
-refuse-requires-2 : tie.Need-refuse-requires-2
+refuse-requires-2 : tie.Need-refuse-requires-then-refused-2
 refuse-requires-2 c κs = search rules
 
 -- Past the first check the run is good; and the list's verdict is that of its stops.
-abbrev start : tie.Else1 → tie.Start
+abbrev start : tie.Else-refused → tie.Start
 start e = at-start e.before.before
 
-good_run : (e : tie.Else1) → GoodRun (run (start e))
-good_run e = accepted_run (run (start e)) (run_accepts (parts (start e)) _ _ e.before.before.judge.ensures e.before.refused.ensures e.if1.false)
+good_run : (e : tie.Else-refused) → GoodRun (run (start e))
+good_run e = accepted_run (run (start e)) (run_accepts (parts (start e)) _ _ e.judge-run.ensures e.refused.ensures e.if-refused.false)
 
-list-is : (c : tie.After-judge-list) → let s = start c.before in c.judge-list.result ≡ list_verdict (stops_of (run s)) s.args.froms.now s.args.tos.now
+list-is : (c : tie.After-judge_list-list) → let s = start c.before in c.judge_list-list.result ≡ list_verdict (stops_of (run s)) s.args.froms.now s.args.tos.now
 list-is c =
     let s = start c.before in
-    c.judge-list.ensures s.args.starts.now s.args.lengths.now s.args.counts.now (sym (good_run c.before).wants.equal)
+    c.judge_list-list.ensures s.args.starts.now s.args.lengths.now s.args.counts.now (sym (good_run c.before).wants.equal)
 
-returns-2 : tie.Need-returns-2
+returns-2 : tie.Need-returns-then-refused-2
 returns-2 c =
-    let l = c.before.before.before in
-    let e = l.before in
-    let s = start e in
+    let l = c in
+    let e = l in
+    let s = start e.before.before.before.before in
     price_answers (run s) s.args.froms.now s.args.tos.now (lent s) _ _
-    (list_refused_lem (parts s) _ _ e.before.before.judge.ensures e.before.refused.ensures
-    _ _ (list-is l) c.before.before.refused2.ensures e.if1.false c.before.if2.true _ c.refuse2.ensures)
+    (list_refused_lem (parts s) _ _ e.judge-run.ensures e.refused.ensures
+    _ _ (list-is l.before.before.before) c.refused-2.ensures e.if-refused.false c.if-refused-2.true _ c.refuse-then-refused-2.ensures)
 
-short-rows-requires : tie.Need-short-rows-requires
+short-rows-requires : tie.Need-short_rows-requires
 short-rows-requires c κs = search rules
 
-refuse-if-requires : tie.Need-refuse-if-requires
+refuse-if-requires : tie.Need-refuse_if-rows-requires
 refuse-if-requires c κs = search rules
 
 refused-requires-3 : tie.Need-refused-requires-3
 refused-requires-3 c κs = search rules
 
-refuse-requires-3 : tie.Need-refuse-requires-3
+refuse-requires-3 : tie.Need-refuse-requires-then-refused-3
 refuse-requires-3 c κs = search rules
 
 -- The check of the rows is that of the contract.
-rows_are : (c : tie.After-refuse-if) → let s = start c.before.before.before.before.before in
-    c.refuse-if.result ≡ refuse_if (short_read_rows (length s.args.numbers.now) (lent s)) ShortRow
-rows_are c = c.refuse-if.ensures ∙ ap (λ b. refuse_if b ShortRow) c.before.short-rows.ensures
+rows_are : (c : tie.After-refuse_if-rows) → let s = start c.before.before.before.before.before in
+    c.refuse_if-rows.result ≡ refuse_if (short_read_rows (length s.args.numbers.now) (lent s)) ShortRow
+rows_are c = c.refuse_if-rows.ensures ∙ ap (λ b. refuse_if b ShortRow) c.short_rows.ensures
 
-returns-3 : tie.Need-returns-3
+returns-3 : tie.Need-returns-then-refused-3
 returns-3 c =
-    let x = c.before.before.before in
-    let d = x.before.before in
-    let l = d.before.before in
-    let e = l.before in
-    let s = start e in
+    let x = c in
+    let d = x in
+    let l = d in
+    let e = l in
+    let s = start e.before.before.before.before.before.before.before.before in
     price_answers (run s) s.args.froms.now s.args.tos.now (lent s) _ _
-    (rows_refused_lem (parts s) _ _ e.before.before.judge.ensures e.before.refused.ensures
-    _ _ (list-is l) d.before.refused2.ensures _ _ (rows_are x) c.before.before.refused3.ensures e.if1.false d.if2.false c.before.if3.true _ c.refuse3.ensures)
+    (rows_refused_lem (parts s) _ _ e.judge-run.ensures e.refused.ensures
+    _ _ (list-is l.before.before.before.before.before.before.before) d.refused-2.ensures _ _ (rows_are x.before.before.before) c.refused-3.ensures e.if-refused.false d.if-refused-2.false c.if-refused-3.true _ c.refuse-then-refused-3.ensures)
 
 -- Past the second check the list is good too.
-good-list : (d : tie.Else2) → let s = start d.before.before.before in GoodList (stops_of (run s)) s.args.froms.now s.args.tos.now
+good-list : (d : tie.Else-refused-2) → let s = start d.before.before.before in GoodList (stops_of (run s)) s.args.froms.now s.args.tos.now
 good-list d =
-    let l = d.before.before in
-    let e = l.before in
-    let s = start e in
+    let l = d in
+    let e = l in
+    let s = start e.before.before.before in
     accepted_list (stops_of (run s)) s.args.froms.now s.args.tos.now
-    (list_accepts (parts s) _ _ e.before.before.judge.ensures e.before.refused.ensures _ _ (list-is l) d.before.refused2.ensures d.if2.false)
+    (list_accepts (parts s) _ _ e.judge-run.ensures e.refused.ensures _ _ (list-is l.before.before) d.refused-2.ensures d.if-refused-2.false)
 
 priced-requires : tie.Need-priced-requires
 priced-requires c κs =
-    let o = c.before.before in
-    let x = o.before.before in
-    let d = x.before.before in
-    let l = d.before.before in
-    let e = l.before in
-    let s = start e in (
-      run_priceable (run s) (good_run e) s.args.froms.now s.args.tos.now (good-list d),
-      rows_long (parts s) _ _ e.before.before.judge.ensures e.before.refused.ensures
-          _ _ (list-is l) d.before.refused2.ensures _ _ (rows_are x) o.before.refused3.ensures o.if3.false,
+    let o = c in
+    let x = o in
+    let d = x in
+    let l = d in
+    let e = l in
+    let s = start e.before.before.before.before.before.before.before.before.before in (
+      run_priceable (run s) (good_run e.before.before.before.before.before.before.before.before.before) s.args.froms.now s.args.tos.now (good-list d.before.before.before.before.before.before),
+      rows_long (parts s) _ _ e.judge-run.ensures e.refused.ensures
+          _ _ (list-is l.before.before.before.before.before.before.before.before) d.refused-2.ensures _ _ (rows_are x.before.before.before.before) o.refused-3.ensures o.if-refused-3.false,
     )
 
-same_length : tie.Need-same-length
-same_length c = c.before.before.before.before.priced.auto.1.1.1.1.1.1.1.1.1.0
+same_length : tie.Need-shape_of-times
+same_length c = c.priced.auto.times
 
-same-length-2 : tie.Need-same-length-2
-same-length-2 c = c.before.before.before.before.priced.auto.1.1.1.1.1.1.1.1.1.1.0
+same-length-2 : tie.Need-shape_of-legs
+same-length-2 c = c.priced.auto.legs
 
-returns-4 : tie.Need-returns-4
+returns-4 : tie.Need-returns
 returns-4 c =
-    let p = c.before.before.before.before in
-    let o = p.before.before.before in
-    let x = o.before.before in
-    let d = x.before.before in
-    let l = d.before.before in
-    let e = l.before in
-    let s = start e in
+    let p = c in
+    let o = p in
+    let x = o in
+    let d = x in
+    let l = d in
+    let e = l in
+    let s = start e.before.before.before.before.before.before.before.before.before.before.before.before.before.before in
     price_answers (run s) s.args.froms.now s.args.tos.now (lent s) _ _
-    (all_accepted (parts s) _ _ e.before.before.judge.ensures e.before.refused.ensures
-    _ _ (list-is l) d.before.refused2.ensures _ _ (rows_are x) o.before.refused3.ensures e.if1.false d.if2.false o.if3.false
-    _ _ (p.priced.ensures.0 ∙ priced_same (run s) (good_run e) (list_of s.args.froms.now s.args.tos.now))
-    (p.priced.ensures.1 ∙ rows_same (run s) (good_run e) (list_of s.args.froms.now s.args.tos.now) (lent s)))
+    (all_accepted (parts s) _ _ e.judge-run.ensures e.refused.ensures
+    _ _ (list-is l.before.before.before.before.before.before.before.before.before.before.before.before.before) d.refused-2.ensures _ _ (rows_are x.before.before.before.before.before.before.before.before.before) o.refused-3.ensures e.if-refused.false d.if-refused-2.false o.if-refused-3.false
+    _ _ (p.priced.ensures.0 ∙ priced_same (run s) (good_run e.before.before.before.before.before.before.before.before.before.before.before.before.before.before) (list_of s.args.froms.now s.args.tos.now))
+    (p.priced.ensures.1 ∙ rows_same (run s) (good_run e.before.before.before.before.before.before.before.before.before.before.before.before.before.before) (list_of s.args.froms.now s.args.tos.now) (lent s)))
 
-pub price-spec : {M : Type 1} → statement M
-price-spec =
+pub price_spec : {M : Type 1} → statement M
+price_spec =
     tie.close
     (tie.spec
     judge-requires

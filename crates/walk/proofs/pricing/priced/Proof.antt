@@ -19,62 +19,62 @@ abbrev lent : tie.Start → ReadRows
 lent s = read_rows s.args.times.now s.args.legs.now
 
 -- The way back from a place in the code to the one that the name says.
-abbrev at-start : tie.After-sweep-end → tie.Start
+abbrev at-start : tie.After-sweep_end-reach → tie.Start
 at-start c = c.before.before.before.before.before.before.before.before.before.before
 
-sweep-end-requires : tie.Need-sweep-end-requires
+sweep-end-requires : tie.Need-sweep_end-reach-requires
 sweep-end-requires c κs = search rules
 
-leg-count-requires : tie.Need-leg-count-requires
+leg-count-requires : tie.Need-leg_count-many-requires
 leg-count-requires c κs = (at-start c).requires.0.few
 
 -- The sweep ends where the definition says.
-swept : (w : tie.After-sweep-end) → let s = at-start w in
-    w.sweep-end.result ≡ sweep_end (detour_legs s.args.head s.args.starts.now s.args.lengths.now s.args.aggregates.now s.args.froms.now s.args.tos.now) (want_stops_of (run s))
-swept w = let s = at-start w in w.sweep-end.ensures s.args.head s.args.counts.now s.pre.0.equal s.pre.0.behind
+swept : (w : tie.After-sweep_end-reach) → let s = at-start w in
+    w.sweep_end-reach.result ≡ sweep_end (detour_legs s.args.head s.args.starts.now s.args.lengths.now s.args.aggregates.now s.args.froms.now s.args.tos.now) (want_stops_of (run s))
+swept w = let s = at-start w in w.sweep_end-reach.ensures s.args.head s.args.counts.now s.requires.0.equal s.requires.0.behind
 
 -- So its legs can be walked.
-walk-fits : (n : tie.After-leg-count) → let s = at-start n.before in
+walk-fits : (n : tie.After-leg_count-many) → let s = at-start n.before in
     WalkFits s.args.starts.now s.args.lengths.now s.args.aggregates.now s.args.numbers.now s.args.froms.now s.args.tos.now
-    n.before.sweep-end.result s.args.head s.args.turn n.leg-count.result
+    n.sweep_end-reach.result s.args.head s.args.turn n.leg_count-many.result
 walk-fits n =
     let s = at-start n.before in
-    let to = n.before.sweep-end.result in
+    let to = n.sweep_end-reach.result in
     record {
-      fit = s.pre.0.fit;
-      within = rw (← (s.pre.0.legs to (swept n.before))) s.pre.0.within;
-      all = n.leg-count.ensures s.args.head s.args.starts.now s.args.lengths.now s.args.aggregates.now s.args.tos.now to s.pre.0.fit.list.even;
+      fit = s.requires.0.fit;
+      within = rw (← (s.requires.0.legs to (swept n.before))) s.requires.0.within;
+      all = n.leg_count-many.ensures s.args.head s.args.starts.now s.args.lengths.now s.args.aggregates.now s.args.tos.now to s.requires.0.fit.list.even;
     }
 
-fill-reads-requires : tie.Need-fill-reads-requires
+fill-reads-requires : tie.Need-fill_reads-sum-requires
 fill-reads-requires c κs =
-    let n = c.before.before in
-    let s = at-start n.before in
-    (walk-fits n, ((s.pre.0.equal, s.pre.0.counted), s.pre.1))
+    let n = c in
+    let s = at-start n.before.before.before in
+    (walk-fits n.before.before, ((s.requires.0.equal, s.requires.0.counted), s.requires.1))
 
 -- The way back from the last call.
-abbrev at-leg-count : tie.After-slice-known4 → tie.After-leg-count
+abbrev at-leg-count : tie.After-slice_known-4-1 → tie.After-leg_count-many
 at-leg-count c = c.before.before.before.before.before.before.before
 
-walk-end-requires : tie.Need-walk-end-requires
+walk-end-requires : tie.Need-walk_end-last-requires
 walk-end-requires c κs = walk-fits (at-leg-count c)
 
-same_length : tie.Need-same-length
-same_length c = c.before.before.before.before.before.fill-reads.auto.1.1.1.1.1.1.1.1.1.1.1.0
+same_length : tie.Need-shape_of-times
+same_length c = c.fill_reads-sum.auto.times
 
-same-length-2 : tie.Need-same-length-2
-same-length-2 c = c.before.before.before.before.before.fill-reads.auto.1.1.1.1.1.1.1.1.1.1.1.1.0
+same-length-2 : tie.Need-shape_of-legs
+same-length-2 c = c.fill_reads-sum.auto.legs
 
 returns : tie.Need-returns
 returns c =
-    let f = c.before.before.before.before.before in
-    let n = f.before.before.before in
-    let s = at-start n.before in
-    walk_numbers (run s) s.args.froms.now s.args.tos.now (lent s) s.pre.0 _ (swept n.before) _ f.fill-reads.ensures.0
-    _ f.fill-reads.ensures.1.0 _ f.fill-reads.ensures.1.1 _ c.walk-end.ensures
+    let f = c in
+    let n = f in
+    let s = at-start n.before.before.before.before.before.before.before.before.before in
+    walk_numbers (run s) s.args.froms.now s.args.tos.now (lent s) s.requires.0 _ (swept n.before.before.before.before.before.before.before.before.before) _ f.fill_reads-sum.ensures.0
+    _ f.fill_reads-sum.ensures.1.0 _ f.fill_reads-sum.ensures.1.1 _ c.walk_end-last.ensures
 
-pub priced-spec : {M : Type 1} → statement M
-priced-spec =
+pub priced_spec : {M : Type 1} → statement M
+priced_spec =
     tie.close
     (tie.spec
     sweep-end-requires

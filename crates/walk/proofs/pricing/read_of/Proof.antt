@@ -24,121 +24,121 @@ none_left i n m h e = omega arith
 runs-inside : (left start end right clock : ℕ) → left ≤ start → end ≤ right → start < end → clock + right < 2 ^ 64 → (left ≤ end) × (clock + end < 2 ^ 64)
 runs-inside left start end right clock h k l r = (omega arith, omega arith)
 
-abbrev invariant-loop : tie.invariant-loop
+abbrev invariant-loop : tie.invariant-loop-i
 invariant-loop starts lengths aggregates numbers froms tos reach head turn file many start end h₀ i₀ h i =
     Timing (row_legs head starts lengths aggregates numbers froms tos reach) head turn (stop_of starts lengths aggregates file 0) h i
 
-abbrev decreases-loop : tie.decreases-loop
+abbrev decreases-loop : tie.decreases-loop-i
 decreases-loop starts lengths aggregates numbers froms tos reach head turn file many start end h₀ i₀ h i = many - i
 
-extent-start-requires : tie.Need-extent-start-requires invariant-loop decreases-loop
+extent-start-requires : tie.Need-extent_start-start-requires invariant-loop decreases-loop
 extent-start-requires c κs = search rules
 
 -- The way back from a place in the code to the one that the name says.
-abbrev at-start-from-extent-start : tie.After-extent-start invariant-loop decreases-loop → tie.Start invariant-loop decreases-loop
+abbrev at-start-from-extent-start : tie.After-extent_start-start invariant-loop decreases-loop → tie.Start invariant-loop decreases-loop
 at-start-from-extent-start c = c.before.before.before.before.before.before.before
 
-abbrev at-start : tie.After-at invariant-loop decreases-loop → tie.Start invariant-loop decreases-loop
+abbrev at-start : tie.After-at-h invariant-loop decreases-loop → tie.Start invariant-loop decreases-loop
 at-start c = at-start-from-extent-start c.before.before
 
-abbrev at-start-from-reads-file : tie.After-reads-file invariant-loop decreases-loop → tie.Start invariant-loop decreases-loop
+abbrev at-start-from-reads-file : tie.After-reads_file invariant-loop decreases-loop → tie.Start invariant-loop decreases-loop
 at-start-from-reads-file c = at-start c.before.before.before.before.before
 
-extent-end-requires : tie.Need-extent-end-requires invariant-loop decreases-loop
+extent-end-requires : tie.Need-extent_end-end-requires invariant-loop decreases-loop
 extent-end-requires c κs =
     let s = at-start-from-extent-start c in
-    (s.pre.0.fit.list.table, s.pre.1)
+    (s.requires.0.fit.list.table, s.requires.1)
 
-at-requires : tie.Need-at-requires invariant-loop decreases-loop
+at-requires : tie.Need-at-h-requires invariant-loop decreases-loop
 at-requires c κs = search rules
 
-loop-holds : tie.Need-loop-init invariant-loop decreases-loop
+loop-holds : tie.Need-loop-i-init invariant-loop decreases-loop
 loop-holds c =
     let s = at-start c in
-    rw c.at.ensures (timing_start _ _ _ _ s.pre.0.within)
+    rw c.at-h.ensures (timing_start _ _ _ _ s.requires.0.within)
 
-leg-at-requires : tie.Need-leg-at-requires invariant-loop decreases-loop
+leg-at-requires : tie.Need-leg_at-leg-requires invariant-loop decreases-loop
 leg-at-requires c κs =
     let s = at-start c.before.before in
-    (s.pre.0.fit, leg-in _ _ _ c.loop-test.true s.pre.0.all)
+    (s.requires.0.fit, leg-in _ _ _ c.loop-i-test.true s.requires.0.all)
 
 -- The leg that was looked up is the walk's next.
-next : (c : tie.After-leg-at invariant-loop decreases-loop)
+next : (c : tie.After-leg_at-leg invariant-loop decreases-loop)
     → let a = (at-start c.before.before.before).args in
-    NextLeg (row_legs a.head a.starts.now a.lengths.now a.aggregates.now a.numbers.now a.froms.now a.tos.now a.reach) c.before.before.loop.h
-    c.before.before.loop.i a.turn c.leg-at.result
+    NextLeg (row_legs a.head a.starts.now a.lengths.now a.aggregates.now a.numbers.now a.froms.now a.tos.now a.reach) c.loop-i.h
+    c.loop-i.i a.turn c.leg_at-leg.result
 next c =
     let s = at-start c.before.before.before in
-    next_leg _ _ _ s.pre.0.within _ _ c.before.before.loop.invariant.walking (leg-in _ _ _ c.before.loop-test.true s.pre.0.all) _ c.leg-at.ensures
+    next_leg _ _ _ s.requires.0.within _ _ c.loop-i.invariant.walking (leg-in _ _ _ c.loop-i-test.true s.requires.0.all) _ c.leg_at-leg.ensures
 
-set-off-requires : tie.Need-set-off-requires invariant-loop decreases-loop
+set-off-requires : tie.Need-set_off-out-requires invariant-loop decreases-loop
 set-off-requires c κs = ((next c).back, (next c).room)
 
-reads-file-requires : tie.Need-reads-file-requires invariant-loop decreases-loop
+reads-file-requires : tie.Need-reads_file-requires invariant-loop decreases-loop
 reads-file-requires c κs = search rules
 
 -- The test of the leg is that of the definition.
-test : (c : tie.After-reads-file invariant-loop decreases-loop)
-    → let es = c.before.before.before.before.before.before.before in
-    let a = es.before.before.before.before.before.before.before.args in
+test : (c : tie.After-reads_file invariant-loop decreases-loop)
+    → let es = c in
+    let a = es.args in
     let s = stop_of a.starts.now a.lengths.now a.aggregates.now a.file 0 in
-    c.reads-file.result ≡ (leb c.before.before.leg-at.result.left s.start && leb s.end c.before.before.leg-at.result.right)
+    c.reads_file.result ≡ (leb c.leg_at-leg.result.left s.start && leb s.end c.leg_at-leg.result.right)
 test c =
-    let e = c.before.before.before.before.before.before in
-    rw (c.reads-file.ensures, e.extent-end.ensures, e.before.extent-start.ensures)
+    let e = c in
+    rw (c.reads_file.ensures, e.extent_end-end.ensures, e.extent_start-start.ensures)
 
-run-right-requires : tie.Need-run-right-requires invariant-loop decreases-loop
+run-right-requires : tie.Need-run_right-there-requires invariant-loop decreases-loop
 run-right-requires c κs =
-    let la = c.before.before.before in
-    let al = la.before.before in
-    let e = c.before.before.before.before.before.before.before in
-    let s = at-start-from-extent-start e.before in
-    let t = s.pre.0.fit.list.table in
-    let n = next la in
-    let x = extent s.args.starts.now s.args.lengths.now s.args.aggregates.now t.sound t.rows s.args.file s.pre.1 in
-    let r = reads_within _ _ _ _ _ _ al.loop.invariant _ n _ (test c.before) c.if1.true in
-    rw (c.before.before.set-off.ensures, e.extent-end.ensures) (runs-inside _ _ _ _ _ r.0 r.1 x.extends n.off)
+    let la = c in
+    let al = la in
+    let e = c in
+    let s = at-start-from-extent-start e.before.before.before.before.before.before.before.before in
+    let t = s.requires.0.fit.list.table in
+    let n = next la.before.before.before in
+    let x = extent s.args.starts.now s.args.lengths.now s.args.aggregates.now t.sound t.rows s.args.file s.requires.1 in
+    let r = reads_within _ _ _ _ _ _ al.loop-i.invariant _ n _ (test c.before) c.if-reads_file.true in
+    rw (c.set_off-out.ensures, e.extent_end-end.ensures) (runs-inside _ _ _ _ _ r.0 r.1 x.extends n.off)
 
-add-leg : tie.Need-overflow-add-t22 invariant-loop decreases-loop
+add-leg : tie.Need-overflow_add-result invariant-loop decreases-loop
 add-leg c =
-    let n = c.before.before.before.before.before in
-    next_fits _ _ n.loop-test.true (at-start n.before.before).fits.many
+    let n = c in
+    next_fits _ _ n.loop-i-test.true (at-start n.before.before.before.before.before.before.before).fits.many
 
-returns : tie.Need-returns invariant-loop decreases-loop
+returns : tie.Need-returns-then-reads_file invariant-loop decreases-loop
 returns c =
-    let b = c.before.before in
-    let la = b.before.before in
-    let al = la.before.before in
-    let e = b.before.before.before.before.before.before in
-    rw (c.run-right.ensures, b.before.set-off.ensures, e.extent-end.ensures)
-    (read_now _ _ _ _ _ _ al.loop.invariant _ (next la) _ (test b) c.before.if1.true)
+    let b = c in
+    let la = b in
+    let al = la in
+    let e = b in
+    rw (c.run_right-there.ensures, b.set_off-out.ensures, e.extent_end-end.ensures)
+    (read_now _ _ _ _ _ _ al.loop-i.invariant _ (next la.before.before.before.before) _ (test b.before.before) c.if-reads_file.true)
 
-run-right-requires-2 : tie.Need-run-right-requires-2 invariant-loop decreases-loop
-run-right-requires-2 c κs = rw c.before.before.set-off.ensures ((next c.before.before.before).forth, (next c.before.before.before).off)
+run-right-requires-2 : tie.Need-run_right-h-requires invariant-loop decreases-loop
+run-right-requires-2 c κs = rw c.set_off-out.ensures ((next c.before.before.before).forth, (next c.before.before.before).off)
 
-add-i : tie.Need-overflow-add-i invariant-loop decreases-loop
+add-i : tie.Need-overflow_add-i invariant-loop decreases-loop
 add-i c =
-    let b = c.before.before in
-    next_fits _ _ b.before.before.before.loop-test.true (at-start-from-reads-file b).ranges.many
+    let b = c in
+    next_fits _ _ b.loop-i-test.true (at-start-from-reads-file b.before.before).ranges.many
 
-loop-less : tie.Need-loop-smaller invariant-loop decreases-loop
-loop-less c = left_falls _ _ c.before.before.before.before.before.loop-test.true
+loop-less : tie.Need-loop-i-smaller invariant-loop decreases-loop
+loop-less c = left_falls _ _ c.loop-i-test.true
 
-loop-again : tie.Need-loop-preserved invariant-loop decreases-loop
+loop-again : tie.Need-loop-i-preserved invariant-loop decreases-loop
 loop-again c =
-    let b = c.before.before in
-    let il = b.before.before.before in
-    let s = at-start il.before.before in
-    rw (c.run-right2.ensures, b.before.set-off.ensures)
-    (timing_on _ _ _ _ _ _ il.before.loop.invariant _ (next b.before.before) _ (test b) s.pre.0.within (leg-in _ _ _ il.loop-test.true s.pre.0.all) c.before.if1.false)
+    let b = c in
+    let il = b in
+    let s = at-start il.before.before.before.before.before.before.before in
+    rw (c.run_right-h.ensures, b.set_off-out.ensures)
+    (timing_on _ _ _ _ _ _ il.loop-i.invariant _ (next b.before.before.before.before) _ (test b.before.before) s.requires.0.within (leg-in _ _ _ il.loop-i-test.true s.requires.0.all) c.if-reads_file.false)
 
-returns-2 : tie.Need-returns-2 invariant-loop decreases-loop
+returns-2 : tie.Need-returns invariant-loop decreases-loop
 returns-2 c =
     let s = at-start c.before.before in
-    never_read _ _ _ _ _ _ c.before.loop.invariant (none_left _ _ _ c.loop-test.false s.pre.0.all)
+    never_read _ _ _ _ _ _ c.loop-i.invariant (none_left _ _ _ c.loop-i-test.false s.requires.0.all)
 
-pub read-of-spec : {M : Type 1} → statement M
-read-of-spec =
+pub read_of_spec : {M : Type 1} → statement M
+read_of_spec =
     tie.close
     (tie.spec
     invariant-loop
