@@ -29,7 +29,7 @@ same_length c = c.put.auto.page
 returns-2 : tie.Need-returns
 returns-2 c =
     let c5 = c in
-    put_number_lem _ _ _ _ _ _ _ (room_left_lem _ _ c5.lacks_room.ensures c5.if-lacks_room.false) c5.ranges.number.fits c5.decimal-places.ensures.1.0 c5.decimal-places.ensures.1.1 c.put.ensures
+    put_number_lem _ _ _ _ _ _ _ (room_left_lem _ _ c5.lacks_room.ensures c5.if-lacks_room.false) c5.ranges.number.fits c5.decimal-places.ensures.1.0 c5.decimal-places.ensures.1.1.0 c.put.ensures
 
 pub put_number_spec : {M : Type 1} → statement M
 put_number_spec =

@@ -17,7 +17,7 @@ enum_told : tie.Need-enum_told-1
 enum_told c = search rules
 
 returns : tie.Need-returns-in_default
-returns c = hex_dead _ _ _ c.hex_digit.ensures c.in_default.is
+returns c = hex_dead c.args.number c.args.byte _ c.hex_digit.ensures c.in_default.is
 
 capped-requires : tie.Need-capped-requires
 capped-requires c κs = search rules
@@ -26,13 +26,13 @@ mul-capped : tie.Need-overflow_mul-capped
 mul-capped c = omega (arith, c.capped.ensures)
 
 add-capped : tie.Need-overflow_add-capped
-add-capped c = omega (arith, c.capped.ensures, hex_small 0 _ _ c.hex_digit.ensures _ c.in-Value.is)
+add-capped c = omega (arith, c.capped.ensures, hex_small 0 c.args.byte _ c.hex_digit.ensures _ c.in-Value.is)
 
 capped-requires-2 : tie.Need-capped-requires-2
 capped-requires-2 c κs = search rules
 
 returns-2 : tie.Need-returns
-returns-2 c = hex_more _ _ _ c.hex_digit.ensures _ c.in-Value.is _ (c.capped-2.ensures ∙ rw c.capped.ensures)
+returns-2 c = hex_more c.args.number c.args.byte _ c.hex_digit.ensures _ c.in-Value.is _ (c.capped-2.ensures ∙ rw c.capped.ensures)
 
 pub next_hex_spec : {M : Type 1} → statement M
 next_hex_spec =

@@ -11,16 +11,20 @@ use Rattle.sheet_reader.proofs.reader.judge_row.Tie as tie
 refused-requires : tie.Need-refused-requires
 refused-requires c κs = search rules
 
-returns : tie.Need-returns
-returns c = rw (sym c.before.refused.ensures ∙ c.if1.true)
+returns : tie.Need-returns-then-refused
+returns c = rw (sym c.refused.ensures ∙ c.if-refused.true)
 
-refuse-if-requires : tie.Need-refuse-if-requires
+refuse-if-requires : tie.Need-refuse_if-requires
 refuse-if-requires c κs = search rules
 
-returns-2 : tie.Need-returns-2
+returns-2 : tie.Need-returns
 returns-2 c =
-    let a = c.before.before.before.args in
-    rw (sym c.before.before.refused.ensures ∙ c.before.if1.false) (last_if {x = ltb a.row a.count} ShortRow refl c.refuse-if.ensures refl)
+    let a = c.args in
+    rw (sym c.refused.ensures ∙ c.if-refused.false) (last_if {x = ltb a.row a.count} ShortRow refl c.refuse_if.ensures refl)
 
-pub judge-row-spec : {M : Type 1} → statement M
-judge-row-spec = tie.close (tie.spec refused-requires returns refuse-if-requires returns-2)
+pub judge_row_spec : {M : Type 1} → statement M
+judge_row_spec = tie.close (tie.spec
+    refused-requires
+    returns
+    refuse-if-requires
+    returns-2)

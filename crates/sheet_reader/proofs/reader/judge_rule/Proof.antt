@@ -8,25 +8,31 @@ use Rattle.sheet_reader.proofs.reader.judge_rule.Tie as tie
 refused-requires : tie.Need-refused-requires
 refused-requires c κs = search rules
 
-returns : tie.Need-returns
-returns c = rw (sym c.before.refused.ensures ∙ c.if1.true)
+returns : tie.Need-returns-then-refused
+returns c = rw (sym c.refused.ensures ∙ c.if-refused.true)
 
-refuse-at-requires : tie.Need-refuse-at-requires
+refuse-at-requires : tie.Need-refuse_at-requires
 refuse-at-requires c κs = search rules
 
-returns-2 : tie.Need-returns-2
+returns-2 : tie.Need-returns-then-sweep
 returns-2 c =
-    let c2 = c.before.before in
-    rw (sym c2.before.refused.ensures ∙ c2.if1.false, c.before.if2.true) c.refuse-at.ensures
+    let c2 = c in
+    rw (sym c2.refused.ensures ∙ c2.if-refused.false, c.if-sweep.true) c.refuse_at.ensures
 
-refuse-at-requires-2 : tie.Need-refuse-at-requires-2
+refuse-at-requires-2 : tie.Need-refuse_at-requires-2
 refuse-at-requires-2 c κs = search rules
 
-returns-3 : tie.Need-returns-3
+returns-3 : tie.Need-returns
 returns-3 c =
-    let c2 = c.before.before in
-    rw (sym c2.before.refused.ensures ∙ c2.if1.false, c.before.if2.false) c.refuse-at2.ensures
+    let c2 = c in
+    rw (sym c2.refused.ensures ∙ c2.if-refused.false, c.if-sweep.false) c.refuse_at-2.ensures
 
-pub judge-rule-spec : {M : Type 1} → statement M
-judge-rule-spec =
-    tie.close (tie.spec refused-requires returns refuse-at-requires returns-2 refuse-at-requires-2 returns-3)
+pub judge_rule_spec : {M : Type 1} → statement M
+judge_rule_spec =
+    tie.close (tie.spec
+    refused-requires
+    returns
+    refuse-at-requires
+    returns-2
+    refuse-at-requires-2
+    returns-3)

@@ -5,106 +5,99 @@ use borrow.Author.Rules.{rules}
 use Rattle.sheet_reader.proofs.reader.read_top.Statement.{statement}
 use Rattle.sheet_reader.proofs.reader.read_top.Tie as tie
 
-tape-line-requires : tie.Need-tape-line-requires
+tape-line-requires : tie.Need-tape_line-requires
 tape-line-requires c κs = search rules
 
-enum-known-end : tie.Need-enum-known-end
+enum-known-end : tie.Need-enum_known-end
 enum-known-end c = search rules
 
-enum_told : tie.Need-enum-told
+enum_told : tie.Need-enum_told-1
 enum_told c = search rules
 
-returns : tie.Need-returns
-returns c = tape_bad _ _ c.before.before.tape-line.ensures c.enum_told.given.1
+returns : tie.Need-returns-in_default
+returns c = tape_bad _ _ c.tape_line.ensures c.in_default.is
 
-slice-aggregate-number-line : tie.Need-slice-aggregate-number-line
-slice-aggregate-number-line c = search rules
-
-number-line-requires : tie.Need-number-line-requires
+number-line-requires : tie.Need-number_line-requires
 number-line-requires c κs = search rules
 
-enum-known-head : tie.Need-enum-known-head
+enum-known-head : tie.Need-enum_known-head
 enum-known-head c = search rules
 
-enum-told-2 : tie.Need-enum-told-2
+enum-told-2 : tie.Need-enum_told-in_default-number_line
 enum-told-2 c = search rules
 
-returns-2 : tie.Need-returns-2
-returns-2 c = head_bad _ _ c.before.before.before.before.before.before.before.tape-line.ensures _ _ c.before.before.before.before.before.end.given.1 _ c.before.before.number-line.ensures c.enum-told2.given.1
+returns-2 : tie.Need-returns-in_default-number_line
+returns-2 c = head_bad _ _ c.tape_line.ensures _ _ c.in-Name.is _ c.number_line.ensures c.in_default-number_line.is
 
-turn-line-requires : tie.Need-turn-line-requires
+turn-line-requires : tie.Need-turn_line-requires
 turn-line-requires c κs = search rules
 
-enum-known-turn : tie.Need-enum-known-turn
+enum-known-turn : tie.Need-enum_known-turn
 enum-known-turn c = search rules
 
-enum-told-3 : tie.Need-enum-told-3
+enum-told-3 : tie.Need-enum_told-in_default-turn_line
 enum-told-3 c = search rules
 
-returns-3 : tie.Need-returns-3
+returns-3 : tie.Need-returns-in_default-turn_line
 returns-3 c =
-    let c4 = c.before.before.before.before in
-    let c8 = c4.before.before.before.before in
-    turn_bad _ _ c8.before.before.before.tape-line.ensures _ _ c8.before.end.given.1 _ c4.before.before.number-line.ensures _ _ c4.head.given.1 _ c.before.before.turn_line.ensures c.enum-told3.given.1
+    let c4 = c in
+    let c8 = c4 in
+    turn_bad _ _ c8.tape_line.ensures _ _ c8.in-Name.is _ c4.number_line.ensures _ _ c4.in-Value.is _ c.turn_line.ensures c.in_default-turn_line.is
 
-rule-line-requires : tie.Need-rule-line-requires
+rule-line-requires : tie.Need-rule_line-requires
 rule-line-requires c κs = search rules
 
-enum-known-sweep : tie.Need-enum-known-sweep
+enum-known-sweep : tie.Need-enum_known-sweep
 enum-known-sweep c = search rules
 
-enum-told-4 : tie.Need-enum-told-4
+enum-told-4 : tie.Need-enum_told-in_default-rule_line
 enum-told-4 c = search rules
 
-returns-4 : tie.Need-returns-4
+returns-4 : tie.Need-returns-in_default-rule_line
 returns-4 c =
-    let c4 = c.before.before.before.before in
-    let c8 = c4.before.before.before.before in
-    let c12 = c8.before.before.before.before in
-    rule_bad _ _ c12.before.before.before.tape-line.ensures _ _ c12.before.end.given.1 _ c8.before.before.number-line.ensures _ _ c8.head.given.1 _ c4.before.before.turn_line.ensures _ _ c4.turn.given.1
-    _ c.before.before.rule_line.ensures c.enum-told4.given.1
+    let c4 = c in
+    let c8 = c4 in
+    let c12 = c8 in
+    rule_bad _ _ c12.tape_line.ensures _ _ c12.in-Name.is _ c8.number_line.ensures _ _ c8.in-Value.is _ c4.turn_line.ensures _ _ c4.in-Value-turn_line.is
+    _ c.rule_line.ensures c.in_default-rule_line.is
 
-slice-aggregate-count-line : tie.Need-slice-aggregate-count-line
-slice-aggregate-count-line c = search rules
-
-count-line-requires : tie.Need-count-line-requires
+count-line-requires : tie.Need-count_line-requires
 count-line-requires c κs = search rules
 
-enum-known-files : tie.Need-enum-known-files
+enum-known-files : tie.Need-enum_known-files
 enum-known-files c = search rules
 
-enum-told-5 : tie.Need-enum-told-5
+enum-told-5 : tie.Need-enum_told-in_default-count_line
 enum-told-5 c = search rules
 
-returns-5 : tie.Need-returns-5
+returns-5 : tie.Need-returns-in_default-count_line
 returns-5 c =
-    let c4 = c.before.before.before.before in
-    let c8 = c4.before.before.before.before in
-    let c12 = c8.before.before.before.before in
-    let c16 = c12.before.before.before.before in
-    let c20 = c16.before.before.before.before in
-    files_bad _ _ c20.tape-line.ensures _ _ c16.before.before.end.given.1 _ c12.before.before.before.number-line.ensures _ _ c12.before.head.given.1 _ c8.before.before.before.turn_line.ensures _ _ c8.before.turn.given.1
-    _ c4.before.before.before.rule_line.ensures _ _ c4.before.sweep.given.1 _ c.before.before.count-line.ensures c.enum-told5.given.1
+    let c4 = c in
+    let c8 = c4 in
+    let c12 = c8 in
+    let c16 = c12 in
+    let c20 = c16 in
+    files_bad _ _ c20.tape_line.ensures _ _ c16.in-Name.is _ c12.number_line.ensures _ _ c12.in-Value.is _ c8.turn_line.ensures _ _ c8.in-Value-turn_line.is
+    _ c4.rule_line.ensures _ _ c4.in-Value-rule_line.is _ c.count_line.ensures c.in_default-count_line.is
 
-returns-6 : tie.Need-returns-6
+returns-6 : tie.Need-returns
 returns-6 c =
-    let c4 = c.before.before.before.before in
-    let c8 = c4.before.before.before.before in
-    let c12 = c8.before.before.before.before in
-    let c16 = c12.before.before.before.before in
-    let c20 = c16.before.before.before.before in
-    top_good _ _ c20.before.tape-line.ensures _ _ c16.before.before.before.end.given.1 _ c16.number-line.ensures _ _ c12.before.before.head.given.1 _ c12.turn_line.ensures _ _ c8.before.before.turn.given.1
-    _ c8.rule_line.ensures _ _ c4.before.before.sweep.given.1 _ c.before.before.before.count-line.ensures _ _ c.before.files.given.1
+    let c4 = c in
+    let c8 = c4 in
+    let c12 = c8 in
+    let c16 = c12 in
+    let c20 = c16 in
+    top_good _ _ c20.tape_line.ensures _ _ c16.in-Name.is _ c16.number_line.ensures _ _ c12.in-Value.is _ c12.turn_line.ensures _ _ c8.in-Value-turn_line.is
+    _ c8.rule_line.ensures _ _ c4.in-Value-rule_line.is _ c.count_line.ensures _ _ c.in-Value-count_line.is
 
-pub read-top-spec : {M : Type 1} → statement M
-read-top-spec =
+pub read_top_spec : {M : Type 1} → statement M
+read_top_spec =
     tie.close
     (tie.spec
     tape-line-requires
     enum-known-end
     enum_told
     returns
-    slice-aggregate-number-line
     number-line-requires
     enum-known-head
     enum-told-2
@@ -117,7 +110,6 @@ read-top-spec =
     enum-known-sweep
     enum-told-4
     returns-4
-    slice-aggregate-count-line
     count-line-requires
     enum-known-files
     enum-told-5

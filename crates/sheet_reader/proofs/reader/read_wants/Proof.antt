@@ -9,99 +9,88 @@ use borrow.Author.Rules.{rules}
 use Rattle.sheet_reader.proofs.reader.read_wants.Statement.{statement}
 use Rattle.sheet_reader.proofs.reader.read_wants.Tie as tie
 
-slice-aggregate-count-line : tie.Need-slice-aggregate-count-line
-slice-aggregate-count-line c = search rules
-
-count-line-requires : tie.Need-count-line-requires
+count-line-requires : tie.Need-count_line-requires
 count-line-requires c κs = search rules
 
-enum-known-wants : tie.Need-enum-known-wants
+enum-known-wants : tie.Need-enum_known-wants
 enum-known-wants c = search rules
 
-enum_told : tie.Need-enum-told
+enum_told : tie.Need-enum_told-1
 enum_told c = search rules
 
-add-t14 : tie.Need-overflow-add-t14
-add-t14 c = search rules
-
-returns : tie.Need-returns
+returns : tie.Need-returns-in_default
 returns c =
-    let cl = c.before.before in
-    wants_bad _ _ _ cl.before.before.before.requires _ cl.count-line.ensures c.enum_told.given.1
+    let cl = c in
+    wants_bad _ _ _ cl.requires _ cl.count_line.ensures c.in_default.is
 
-slice-aggregate-pair-lines : tie.Need-slice-aggregate-pair-lines
-slice-aggregate-pair-lines c = search rules
-
-pair-lines-requires : tie.Need-pair-lines-requires
+pair-lines-requires : tie.Need-pair_lines-requires
 pair-lines-requires c κs = search rules
 
-enum-known-line : tie.Need-enum-known-line
+enum-known-line : tie.Need-enum_known-line
 enum-known-line c = search rules
 
-add-t19 : tie.Need-overflow-add-t19
+add-t19 : tie.Need-overflow_add-result-in-Bad
 add-t19 c = search rules
 
-add-t20 : tie.Need-overflow-add-t20
+add-t20 : tie.Need-overflow_add-result-in-Bad-2
 add-t20 c =
-    let pl = c.before.before.before in
-    let w = pl.before.before.before in
-    let cl = w.before.before in
-    let s = cl.before.before.before in
-    let few = wants_few _ _ _ s.requires _ cl.count-line.ensures _ _ w.wants.given.1 in
-    let bad = lines_failed (is_pair_line want_key) _ _ _ _ pl.pair-lines.ensures _ c.before.line.given.1 in
+    let pl = c in
+    let w = pl in
+    let cl = w in
+    let s = cl in
+    let few = wants_few _ _ _ s.requires _ cl.count_line.ensures _ _ w.in-Value.is in
+    let bad = lines_failed (is_pair_line want_key) _ _ _ _ pl.pair_lines.ensures _ c.in-Bad.is in
     omega (arith, s.requires.few, bad.most)
 
-enum-known-end : tie.Need-enum-known-end
+enum-known-end : tie.Need-enum_known-end
 enum-known-end c = search rules
 
-add-t24 : tie.Need-overflow-add-t24
+add-t24 : tie.Need-overflow_add-result-then-end-sheet
 add-t24 c =
-    let c4 = c.before.before.before.before in
-    let c8 = c4.before.before.before.before in
-    let c12 = c8.before.before.before.before in
-    let few = wants_few _ _ _ c12.requires _ c8.before.count-line.ensures _ _ c4.before.before.before.wants.given.1 in omega (arith, c12.requires.few)
+    let c4 = c in
+    let c8 = c4 in
+    let c12 = c8 in
+    let few = wants_few _ _ _ c12.requires _ c8.count_line.ensures _ _ c4.in-Value.is in omega (arith, c12.requires.few)
 
-add-t25 : tie.Need-overflow-add-t25
+add-t25 : tie.Need-overflow_add-result-then-end-sheet-2
 add-t25 c =
-    let c4 = c.before.before.before.before in
-    let c8 = c4.before.before.before.before in
-    let c12 = c8.before.before.before.before in
-    let few = wants_few _ _ _ c12.requires _ c8.before.count-line.ensures _ _ c4.before.before.before.wants.given.1 in omega (arith, c12.requires.few)
+    let c4 = c in
+    let c8 = c4 in
+    let c12 = c8 in
+    let few = wants_few _ _ _ c12.requires _ c8.count_line.ensures _ _ c4.in-Value.is in omega (arith, c12.requires.few)
 
-returns-2 : tie.Need-returns-2
+returns-2 : tie.Need-returns-in-Bad
 returns-2 c =
-    let c4 = c.before.before.before.before in
-    let c8 = c4.before.before.before.before in
-    want_bad _ _ _ c8.before.before.before.requires _ c8.count-line.ensures _ _ c4.before.before.wants.given.1 _
-    (lines_failed (is_pair_line want_key) _ _ _ _ c.before.before.before.pair-lines.ensures _ c.before.line.given.1)
+    let c4 = c in
+    let c8 = c4 in
+    want_bad _ _ _ c8.requires _ c8.count_line.ensures _ _ c4.in-Value.is _
+    (lines_failed (is_pair_line want_key) _ _ _ _ c.pair_lines.ensures _ c.in-Bad.is)
 
-returns-3 : tie.Need-returns-3
+returns-3 : tie.Need-returns-then-end-sheet
 returns-3 c =
-    let c4 = c.before.before.before.before in
-    let c8 = c4.before.before.before.before in
-    let c12 = c8.before.before.before.before in
-    text_behind _ _ _ c12.requires _ c8.before.count-line.ensures _ _ c4.before.before.before.wants.given.1 _
-    (lines_ended (is_pair_line want_key) _ _ _ _ c4.pair-lines.ensures _ c.before.before.end.given.1) c.if1.true
+    let c4 = c in
+    let c8 = c4 in
+    let c12 = c8 in
+    text_behind _ _ _ c12.requires _ c8.count_line.ensures _ _ c4.in-Value.is _
+    (lines_ended (is_pair_line want_key) _ _ _ _ c4.pair_lines.ensures _ c.in-End.is) c.if-end-sheet.true
 
-returns-4 : tie.Need-returns-4
+returns-4 : tie.Need-returns-else-end-sheet
 returns-4 c =
-    let c4 = c.before.before.before.before in
-    let c8 = c4.before.before.before.before in
-    let c12 = c8.before.before.before.before in
-    below_good _ _ _ c12.requires _ c8.before.count-line.ensures _ _ c4.before.before.before.wants.given.1 _
-    (lines_ended (is_pair_line want_key) _ _ _ _ c4.pair-lines.ensures _ c.before.before.end.given.1) c.if1.false
+    let c4 = c in
+    let c8 = c4 in
+    let c12 = c8 in
+    below_good _ _ _ c12.requires _ c8.count_line.ensures _ _ c4.in-Value.is _
+    (lines_ended (is_pair_line want_key) _ _ _ _ c4.pair_lines.ensures _ c.in-End.is) c.if-end-sheet.false
 
-pub read-wants-spec : {M : Type 1} → statement M
-read-wants-spec =
+pub read_wants_spec : {M : Type 1} → statement M
+read_wants_spec =
     tie.close
     (tie.spec
-    slice-aggregate-count-line
     count-line-requires
     enum-known-wants
     enum_told
-    add-t14
+    (λ c. search rules)
     returns
-    slice-aggregate-pair-lines
     pair-lines-requires
     enum-known-line
     add-t19

@@ -6,32 +6,32 @@ use borrow.Author.Rules.{rules}
 use Rattle.sheet_reader.proofs.reader.tape_name.Statement.{statement}
 use Rattle.sheet_reader.proofs.reader.tape_name.Tie as tie
 
-judge-sheet-requires : tie.Need-judge-sheet-requires
+judge-sheet-requires : tie.Need-judge_sheet-judged-requires
 judge-sheet-requires c κs = search rules
 
 refused-requires : tie.Need-refused-requires
 refused-requires c κs = search rules
 
-slice-aggregate-result : tie.Need-slice-aggregate-result
+slice-aggregate-result : tie.Need-slice_bounds-result-end
 slice-aggregate-result c = search rules
 
-returns : tie.Need-returns
-returns c = (no_name _ _ c.before.before.before.judge-sheet.ensures _ c.before.before.refused.ensures c.before.if1.true, no_name_from _ _ c.before.before.before.judge-sheet.ensures _ c.before.before.refused.ensures c.before.if1.true _)
+returns : tie.Need-returns-then-refused
+returns c = (no_name _ _ c.judge_sheet-judged.ensures _ c.refused.ensures c.if-refused.true, no_name_from _ _ c.judge_sheet-judged.ensures _ c.refused.ensures c.if-refused.true _)
 
-sub-result : tie.Need-overflow-sub-result
-sub-result c = omega (arith, (name_part _ _ c.before.before.judge-sheet.ensures _ c.before.refused.ensures c.if1.false).ordered)
+sub-result : tie.Need-slice_bounds-result-count
+sub-result c = omega (arith, (name_part _ _ c.judge_sheet-judged.ensures _ c.refused.ensures c.if-refused.false).ordered)
 
-part-result-start : tie.Need-slice-bounds-result-start
-part-result-start c = omega (arith, (name_part _ _ c.before.before.judge-sheet.ensures _ c.before.refused.ensures c.if1.false).ordered)
+part-result-start : tie.Need-slice_bounds-result-start
+part-result-start c = omega (arith, (name_part _ _ c.judge_sheet-judged.ensures _ c.refused.ensures c.if-refused.false).ordered)
 
-part-result-end : tie.Need-slice-bounds-result-end
-part-result-end c = omega (arith, (name_part _ _ c.before.before.judge-sheet.ensures _ c.before.refused.ensures c.if1.false).within)
+part-result-end : tie.Need-slice_bounds-result-end-2
+part-result-end c = omega (arith, (name_part _ _ c.judge_sheet-judged.ensures _ c.refused.ensures c.if-refused.false).within)
 
-returns-2 : tie.Need-returns-2
-returns-2 c = (name_read _ _ c.before.before.before.judge-sheet.ensures _ c.before.before.refused.ensures c.before.if1.false, name_from _ _ c.before.before.before.judge-sheet.ensures _ c.before.before.refused.ensures c.before.if1.false _)
+returns-2 : tie.Need-returns
+returns-2 c = (name_read _ _ c.judge_sheet-judged.ensures _ c.refused.ensures c.if-refused.false, name_from _ _ c.judge_sheet-judged.ensures _ c.refused.ensures c.if-refused.false _)
 
-pub tape-name-spec : {M : Type 1} → statement M
-tape-name-spec =
+pub tape_name_spec : {M : Type 1} → statement M
+tape_name_spec =
     tie.close
     (tie.spec
     judge-sheet-requires

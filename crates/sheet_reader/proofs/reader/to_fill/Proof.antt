@@ -8,11 +8,14 @@ use Rattle.sheet_reader.proofs.reader.to_fill.Tie as tie
 refused-requires : tie.Need-refused-requires
 refused-requires c κs = search rules
 
-returns : tie.Need-returns
-returns c = rw (sym c.before.refused.ensures ∙ c.if1.true)
+returns : tie.Need-returns-then-refused
+returns c = rw (sym c.refused.ensures ∙ c.if-refused.true)
 
-returns-2 : tie.Need-returns-2
-returns-2 c = rw (sym c.before.refused.ensures ∙ c.if1.false)
+returns-2 : tie.Need-returns
+returns-2 c = rw (sym c.refused.ensures ∙ c.if-refused.false)
 
-pub to-fill-spec : {M : Type 1} → statement M
-to-fill-spec = tie.close (tie.spec refused-requires returns returns-2)
+pub to_fill_spec : {M : Type 1} → statement M
+to_fill_spec = tie.close (tie.spec
+    refused-requires
+    returns
+    returns-2)

@@ -8,77 +8,70 @@ use borrow.Author.Rules.{rules}
 use Rattle.sheet_reader.proofs.top.rule_line.Statement.{statement}
 use Rattle.sheet_reader.proofs.top.rule_line.Tie as tie
 
-slice-aggregate-find-value : tie.Need-slice-aggregate-find-value
-slice-aggregate-find-value c = search rules
-
-find-value-requires : tie.Need-find-value-requires
+find-value-requires : tie.Need-find_value-requires
 find-value-requires c κs = search rules
 
-enum-known-from : tie.Need-enum-known-from
+enum-known-from : tie.Need-enum_known-from
 enum-known-from c = search rules
 
-enum_told : tie.Need-enum-told
+enum_told : tie.Need-enum_told-1
 enum_told c = search rules
 
-returns : tie.Need-returns
-returns c = unkeyed_rule _ (unkeyed rule_key _ _ _ c.before.before.find-value.ensures c.enum_told.given.1)
+returns : tie.Need-returns-in_default
+returns c = unkeyed_rule _ (unkeyed rule_key _ _ _ c.find_value.ensures c.in_default.is)
 
-sub_same : tie.Need-overflow-sub-same
-sub_same c = (value_at rule_key _ _ _ c.before.before.before.find-value.ensures _ _ c.before.from.given.1).ordered
+sub_same : tie.Need-slice_bounds-same-count
+sub_same c = (value_at rule_key _ _ _ c.find_value.ensures _ _ c.in-Text.is).ordered
 
-part-same-start : tie.Need-slice-bounds-same-start
-part-same-start c = (value_at rule_key _ _ _ c.before.before.before.find-value.ensures _ _ c.before.from.given.1).ordered
+part-same-start : tie.Need-slice_bounds-same-start
+part-same-start c = (value_at rule_key _ _ _ c.find_value.ensures _ _ c.in-Text.is).ordered
 
-part-same-end : tie.Need-slice-bounds-same-end
-part-same-end c = let v = value_at rule_key _ _ _ c.before.before.before.find-value.ensures _ _ c.before.from.given.1 in omega (arith, v.within)
-
-slice-aggregate-same : tie.Need-slice-aggregate-same
-slice-aggregate-same c = search rules
+part-same-end : tie.Need-slice_bounds-same-end
+part-same-end c = let v = value_at rule_key _ _ _ c.find_value.ensures _ _ c.in-Text.is in omega (arith, v.within)
 
 same-requires : tie.Need-same-requires
 same-requires c κs = search rules
 
-add-t17 : tie.Need-overflow-add-t17
+add-t17 : tie.Need-overflow_add-result
 add-t17 c =
-    let k = c.before.before.before.before.before in
-    let v = value_at rule_key _ _ _ k.before.before.find-value.ensures _ _ k.from.given.1 in omega (arith, v.within)
+    let k = c in
+    let v = value_at rule_key _ _ _ k.find_value.ensures _ _ k.in-Text.is in omega (arith, v.within)
 
-returns-2 : tie.Need-returns-2
+returns-2 : tie.Need-returns-then-same
 returns-2 c =
-    let k = c.before.before.before.before.before in
-    rule_line_sweep _ _ _ k.before.before.find-value.ensures _ _ k.from.given.1 _ c.before.same.ensures c.if1.true
+    let k = c in
+    rule_line_sweep _ _ _ k.find_value.ensures _ _ k.in-Text.is _ c.same.ensures c.if-same.true
 
-sub-least-line : tie.Need-overflow-sub-least-line
+sub-least-line : tie.Need-slice_bounds-least_line-count
 sub-least-line c =
-    let k = c.before.before.before.before.before in
-    (value_at rule_key _ _ _ k.before.before.find-value.ensures _ _ k.from.given.1).ordered
+    let k = c in
+    (value_at rule_key _ _ _ k.find_value.ensures _ _ k.in-Text.is).ordered
 
-part-least-line-start : tie.Need-slice-bounds-least-line-start
+part-least-line-start : tie.Need-slice_bounds-least_line-start
 part-least-line-start c =
-    let k = c.before.before.before.before.before in
-    (value_at rule_key _ _ _ k.before.before.find-value.ensures _ _ k.from.given.1).ordered
+    let k = c in
+    (value_at rule_key _ _ _ k.find_value.ensures _ _ k.in-Text.is).ordered
 
-part-least-line-end : tie.Need-slice-bounds-least-line-end
+part-least-line-end : tie.Need-slice_bounds-least_line-end
 part-least-line-end c =
-    let k = c.before.before.before.before.before in
-    let v = value_at rule_key _ _ _ k.before.before.find-value.ensures _ _ k.from.given.1 in omega (arith, v.within)
+    let k = c in
+    let v = value_at rule_key _ _ _ k.find_value.ensures _ _ k.in-Text.is in omega (arith, v.within)
 
-least-line-requires : tie.Need-least-line-requires
+least-line-requires : tie.Need-least_line-requires
 least-line-requires c κs =
-    let k = c.before.before.before.before.before.before in
-    let v = value_at rule_key _ _ _ k.before.before.find-value.ensures _ _ k.from.given.1 in omega (arith, v.within)
+    let k = c in
+    let v = value_at rule_key _ _ _ k.find_value.ensures _ _ k.in-Text.is in omega (arith, v.within)
 
-returns-3 : tie.Need-returns-3
+returns-3 : tie.Need-returns
 returns-3 c =
-    let k = c.before.before.before.before.before.before.before in
-    let s = c.before.before.before in
-    rule_line_other _ _ _ k.before.before.find-value.ensures _ _ k.from.given.1 _ s.same.ensures c.before.before.if1.false _ c.least-line.ensures
+    let k = c in
+    let s = c in
+    rule_line_other _ _ _ k.find_value.ensures _ _ k.in-Text.is _ s.same.ensures c.if-same.false _ c.least_line.ensures
 
-pub rule-line-spec : {M : Type 1} → statement M
-rule-line-spec =
+pub rule_line_spec : {M : Type 1} → statement M
+rule_line_spec =
     tie.close
     (tie.spec
-    slice-aggregate-find-value
     find-value-requires
     enum-known-from
     enum_told
@@ -86,7 +79,6 @@ rule-line-spec =
     sub_same
     part-same-start
     part-same-end
-    slice-aggregate-same
     same-requires
     add-t17
     returns-2

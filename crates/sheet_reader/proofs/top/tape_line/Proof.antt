@@ -8,53 +8,49 @@ use borrow.Author.Rules.{rules}
 use Rattle.sheet_reader.proofs.top.tape_line.Statement.{statement}
 use Rattle.sheet_reader.proofs.top.tape_line.Tie as tie
 
-slice-aggregate-find-value : tie.Need-slice-aggregate-find-value
-slice-aggregate-find-value c = search rules
-
-find-value-requires : tie.Need-find-value-requires
+find-value-requires : tie.Need-find_value-requires
 find-value-requires c κs = search rules
 
-enum-known-from : tie.Need-enum-known-from
+enum-known-from : tie.Need-enum_known-from
 enum-known-from c = search rules
 
-enum_told : tie.Need-enum-told
+enum_told : tie.Need-enum_told-1
 enum_told c = search rules
 
-returns : tie.Need-returns
-returns c = tape_line_unkeyed _ _ c.before.before.find-value.ensures c.enum_told.given.1
+returns : tie.Need-returns-in_default
+returns c = tape_line_unkeyed _ _ c.find_value.ensures c.in_default.is
 
-sub-is-name : tie.Need-overflow-sub-is-name
-sub-is-name c = (value_at tape_key _ 0 _ c.before.before.before.find-value.ensures _ _ c.before.from.given.1).ordered
+sub-is-name : tie.Need-slice_bounds-is_name-count
+sub-is-name c = (value_at tape_key _ 0 _ c.find_value.ensures _ _ c.in-Text.is).ordered
 
-part-is-name-start : tie.Need-slice-bounds-is-name-start
-part-is-name-start c = (value_at tape_key _ 0 _ c.before.before.before.find-value.ensures _ _ c.before.from.given.1).ordered
+part-is-name-start : tie.Need-slice_bounds-is_name-start
+part-is-name-start c = (value_at tape_key _ 0 _ c.find_value.ensures _ _ c.in-Text.is).ordered
 
-part-is-name-end : tie.Need-slice-bounds-is-name-end
-part-is-name-end c = let v = value_at tape_key _ 0 _ c.before.before.before.find-value.ensures _ _ c.before.from.given.1 in omega (arith, v.within)
+part-is-name-end : tie.Need-slice_bounds-is_name-end
+part-is-name-end c = let v = value_at tape_key _ 0 _ c.find_value.ensures _ _ c.in-Text.is in omega (arith, v.within)
 
-is-name-requires : tie.Need-is-name-requires
+is-name-requires : tie.Need-is_name-requires
 is-name-requires c κs = search rules
 
-name-ending-requires : tie.Need-name-ending-requires
+name-ending-requires : tie.Need-name_ending-requires
 name-ending-requires c κs =
-    let k = c.before.before.before.before in
-    let v = value_at tape_key _ 0 _ k.before.before.find-value.ensures _ _ k.from.given.1 in omega (arith, v.within)
+    let k = c in
+    let v = value_at tape_key _ 0 _ k.find_value.ensures _ _ k.in-Text.is in omega (arith, v.within)
 
-returns-2 : tie.Need-returns-2
+returns-2 : tie.Need-returns-then-is_name
 returns-2 c =
-    let k = c.before.before.before.before.before in
-    rw c.name-ending.ensures (tape_line_good _ _ k.before.before.find-value.ensures _ _ k.from.given.1 _ c.before.before.is_name.ensures c.before.if1.true)
+    let k = c in
+    rw c.name_ending.ensures (tape_line_good _ _ k.find_value.ensures _ _ k.in-Text.is _ c.is_name.ensures c.if-is_name.true)
 
-returns-3 : tie.Need-returns-3
+returns-3 : tie.Need-returns-else-is_name
 returns-3 c =
-    let k = c.before.before.before.before in
-    tape_line_bad _ _ k.before.before.find-value.ensures _ _ k.from.given.1 _ c.before.is_name.ensures c.if1.false
+    let k = c in
+    tape_line_bad _ _ k.find_value.ensures _ _ k.in-Text.is _ c.is_name.ensures c.if-is_name.false
 
-pub tape-line-spec : {M : Type 1} → statement M
-tape-line-spec =
+pub tape_line_spec : {M : Type 1} → statement M
+tape_line_spec =
     tie.close
     (tie.spec
-    slice-aggregate-find-value
     find-value-requires
     enum-known-from
     enum_told

@@ -8,77 +8,73 @@ use borrow.Author.Rules.{rules}
 use Rattle.sheet_reader.proofs.top.turn_line.Statement.{statement}
 use Rattle.sheet_reader.proofs.top.turn_line.Tie as tie
 
-slice-aggregate-find-value : tie.Need-slice-aggregate-find-value
-slice-aggregate-find-value c = search rules
-
-find-value-requires : tie.Need-find-value-requires
+find-value-requires : tie.Need-find_value-requires
 find-value-requires c κs = search rules
 
-enum-known-from : tie.Need-enum-known-from
+enum-known-from : tie.Need-enum_known-from
 enum-known-from c = search rules
 
-enum_told : tie.Need-enum-told
+enum_told : tie.Need-enum_told-1
 enum_told c = search rules
 
-returns : tie.Need-returns
-returns c = unkeyed_turn _ (unkeyed turn_key _ _ _ c.before.before.find-value.ensures c.enum_told.given.1)
+returns : tie.Need-returns-in_default
+returns c = unkeyed_turn _ (unkeyed turn_key _ _ _ c.find_value.ensures c.in_default.is)
 
-empty-price-requires : tie.Need-empty-price-requires
+empty-price-requires : tie.Need-empty_price-requires
 empty-price-requires c κs =
-    let k = c.before.before in
-    let v = value_at turn_key _ _ _ k.before.before.find-value.ensures _ _ k.from.given.1 in omega (arith, v.within)
+    let k = c in
+    let v = value_at turn_key _ _ _ k.find_value.ensures _ _ k.in-Text.is in omega (arith, v.within)
 
-returns-2 : tie.Need-returns-2
+returns-2 : tie.Need-returns-then-from-end
 returns-2 c =
-    let k = c.before.before.before in
-    rw c.empty-price.ensures (turn_line_empty _ _ _ k.before.before.find-value.ensures _ _ k.from.given.1 c.before.if1.true)
+    let k = c in
+    rw c.empty_price.ensures (turn_line_empty _ _ _ k.find_value.ensures _ _ k.in-Text.is c.if-from-end.true)
 
-sub-read-number : tie.Need-overflow-sub-read-number
-sub-read-number c = (value_at turn_key _ _ _ c.before.before.before.before.find-value.ensures _ _ c.before.before.from.given.1).ordered
+sub-read-number : tie.Need-slice_bounds-read_number-count
+sub-read-number c = (value_at turn_key _ _ _ c.find_value.ensures _ _ c.in-Text.is).ordered
 
-part-read-number-start : tie.Need-slice-bounds-read-number-start
-part-read-number-start c = (value_at turn_key _ _ _ c.before.before.before.before.find-value.ensures _ _ c.before.before.from.given.1).ordered
+part-read-number-start : tie.Need-slice_bounds-read_number-start
+part-read-number-start c = (value_at turn_key _ _ _ c.find_value.ensures _ _ c.in-Text.is).ordered
 
-part-read-number-end : tie.Need-slice-bounds-read-number-end
-part-read-number-end c = let v = value_at turn_key _ _ _ c.before.before.before.before.find-value.ensures _ _ c.before.before.from.given.1 in omega (arith, v.within)
+part-read-number-end : tie.Need-slice_bounds-read_number-end
+part-read-number-end c = let v = value_at turn_key _ _ _ c.find_value.ensures _ _ c.in-Text.is in omega (arith, v.within)
 
-read-number-requires : tie.Need-read-number-requires
+read-number-requires : tie.Need-read_number-requires
 read-number-requires c κs = search rules
 
-enum-known-number : tie.Need-enum-known-number
+enum-known-number : tie.Need-enum_known-number
 enum-known-number c = search rules
 
-enum-told-2 : tie.Need-enum-told-2
+enum-told-2 : tie.Need-enum_told-in_default-read_number
 enum-told-2 c = search rules
 
 -- The way back from a place in the code to the one that the name says.
-abbrev at_from : tie.After-known-told2 → tie.After-from
-at_from c = c.before.before.before.before.before.before.before
+abbrev at_from : tie.In-Value → tie.In-Text
+at_from c = c.before.before.before.before
 
-returns-3 : tie.Need-returns-3
+returns-3 : tie.Need-returns-in_default-read_number
 returns-3 c =
-    let rn = c.before.before in
-    let e1 = rn.before.before in
-    let f = e1.before.before in
-    turn_line_bad _ _ _ f.before.before.find-value.ensures _ _ f.from.given.1 e1.if1.false _ rn.read_number.ensures c.enum-told2.given.1
+    let rn = c in
+    let e1 = rn in
+    let f = e1 in
+    turn_line_bad _ _ _ f.find_value.ensures _ _ f.in-Text.is e1.if-from-end.false _ rn.read_number.ensures c.in_default-read_number.is
 
-add-t13 : tie.Need-overflow-add-t13
+add-t13 : tie.Need-overflow_add-result
 add-t13 c =
     let f = at_from c in
-    let v = value_at turn_key _ _ _ f.before.before.find-value.ensures _ _ f.from.given.1 in omega (arith, v.within)
+    let v = value_at turn_key _ _ _ f.find_value.ensures _ _ f.in-Text.is in omega (arith, v.within)
 
-returns-4 : tie.Need-returns-4
+returns-4 : tie.Need-returns
 returns-4 c =
-    let rn = c.before.before.before in
-    let e1 = rn.before.before in
-    let f = e1.before.before in
-    turn_line_good _ _ _ f.before.before.find-value.ensures _ _ f.from.given.1 e1.if1.false _ rn.read_number.ensures _ c.before.number.given.1
+    let rn = c in
+    let e1 = rn in
+    let f = e1 in
+    turn_line_good _ _ _ f.find_value.ensures _ _ f.in-Text.is e1.if-from-end.false _ rn.read_number.ensures _ c.in-Value.is
 
-pub turn-line-spec : {M : Type 1} → statement M
-turn-line-spec =
+pub turn_line_spec : {M : Type 1} → statement M
+turn_line_spec =
     tie.close
     (tie.spec
-    slice-aggregate-find-value
     find-value-requires
     enum-known-from
     enum_told

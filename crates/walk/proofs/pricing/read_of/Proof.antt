@@ -102,7 +102,7 @@ run-right-requires c κs =
 add-leg : tie.Need-overflow_add-result invariant-loop decreases-loop
 add-leg c =
     let n = c in
-    next_fits _ _ n.loop-i-test.true (at-start n.before.before.before.before.before.before.before).fits.many
+    next_fits _ _ n.loop-i-test.true (at-start n.before.before.before.before.before.before.before).ranges.many
 
 returns : tie.Need-returns-then-reads_file invariant-loop decreases-loop
 returns c =

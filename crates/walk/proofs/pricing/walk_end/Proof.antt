@@ -49,7 +49,7 @@ run-right-requires c κs = rw c.set_off.ensures ((next c.before).forth, (next c.
 add-i : tie.Need-overflow_add-i invariant-loop decreases-loop
 add-i c =
     let n = c in
-    omega (arith, n.loop-i-test.true, (at-start n.before.before.before.before.before).fits.many)
+    omega (arith, n.loop-i-test.true, (at-start n.before.before.before.before.before).ranges.many)
 
 loop-less : tie.Need-loop-i-smaller invariant-loop decreases-loop
 loop-less c = search rules
