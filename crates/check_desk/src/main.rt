@@ -5,8 +5,9 @@
 
 use desk_boardings::{BoardedRow, Boarding};
 use desk_tickets::{Filing, Lasts, Ticket, Withdrawal};
-use libc::STDOUT_FILENO;
 use refusals::number;
+
+const STDOUT: i32 = 1;
 
 // The tape: where its files start, how long they are, and which lie in an aggregate.
 const STARTS: [u64; 20] = [
@@ -311,10 +312,10 @@ fn main() {
     let mut first: u64 = 0;
     while first < 1500 {
         day = fifty(day, first);
-        io::print_decimal(STDOUT_FILENO, first + 1);
-        io::write_all(STDOUT_FILENO, b": ");
-        io::print_decimal(STDOUT_FILENO, day.sum);
-        io::write_all(STDOUT_FILENO, b"\n");
+        io::print_decimal(STDOUT, first + 1);
+        io::write_all(STDOUT, b": ");
+        io::print_decimal(STDOUT, day.sum);
+        io::write_all(STDOUT, b"\n");
         first += 50;
     }
 }

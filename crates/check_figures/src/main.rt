@@ -4,10 +4,11 @@
 
 ghost use Rattle.std.specs.Prelude.{◌<◌};
 
-use libc::STDOUT_FILENO;
 use refusals::{Verdict, refused};
 use sheet_writer::Written;
 use text_inputs::front;
+
+const STDOUT: i32 = 1;
 
 const STARTS: [u64; 6] = [0, 10, 20, 30, 40, 50];
 
@@ -117,10 +118,10 @@ fn fifty(first: u64) -> u64 {
 fn main() {
     let mut first: u64 = 0;
     while first < 3000 {
-        io::print_decimal(STDOUT_FILENO, first + 1);
-        io::write_all(STDOUT_FILENO, b": ");
-        io::print_decimal(STDOUT_FILENO, fifty(first));
-        io::write_all(STDOUT_FILENO, b"\n");
+        io::print_decimal(STDOUT, first + 1);
+        io::write_all(STDOUT, b": ");
+        io::print_decimal(STDOUT, fifty(first));
+        io::write_all(STDOUT, b"\n");
         first += 50;
     }
 }

@@ -5,21 +5,22 @@
 
 ghost use Rattle.std.specs.Prelude.{◌<◌};
 
-use libc::STDOUT_FILENO;
 use text_bytes::Found;
 use text_inputs::{front, part};
 use walk::Answer;
+
+const STDOUT: i32 = 1;
 
 // The first letters of the rows: starts, lengths, aggregates, numbers, counts, froms, untils, and head and turn of one number each.
 const KEYS: [u8; 9] = [b's', b'l', b'a', b'n', b'c', b'f', b'u', b'h', b't'];
 
 fn text(bytes: &[u8]) {
-    io::write_all(STDOUT_FILENO, bytes);
+    io::write_all(STDOUT, bytes);
 }
 
 fn field(name: &[u8], value: u64) {
     text(name);
-    io::print_decimal(STDOUT_FILENO, value);
+    io::print_decimal(STDOUT, value);
 }
 
 // A row of an accepted answer: an entry for each want.

@@ -10,10 +10,11 @@ ghost use Rattle.answer_desk.specs.Days.{most_room};
 
 use answer_desk::Day;
 use desk_rows::ToldRow;
-use libc::STDOUT_FILENO;
 use refusals::{Refusal, Verdict};
 use sheet_runs::entries;
 use text_lines::NumberLine;
+
+const STDOUT: i32 = 1;
 
 // The number of the refusal of a line that is no event.
 const NO_EVENT: u64 = 11;
@@ -29,7 +30,7 @@ struct Step {
 fn print_refusal(verdict: Verdict) {
     let mut out = [0u8; 56];
     let lines = sheet_writer::write_refusal(verdict, &mut out);
-    io::write_all(STDOUT_FILENO, text_inputs::front(&out, lines.bytes));
+    io::write_all(STDOUT, text_inputs::front(&out, lines.bytes));
 }
 
 fn print_waiting(day: Day) {
@@ -38,7 +39,7 @@ fn print_waiting(day: Day) {
     let ones = desk_tickets::count_waiting(row, 1) as u64;
     let twos = desk_tickets::count_waiting(row, 2) as u64;
     let bytes = text_pages::put_pair_line(&mut out, 0, b"waiting=", ones, twos);
-    io::write_all(STDOUT_FILENO, text_inputs::front(&out, bytes as u64));
+    io::write_all(STDOUT, text_inputs::front(&out, bytes as u64));
 }
 
 // The answer to the first n bytes of a line, on the table as a lent row. The room is enough for every boarding, and the row for every answer.
@@ -147,7 +148,7 @@ fn take_event(day: Day, before: u64, starts: &[u64], lengths: &[u64], aggregates
     if refusals::refused(verdict) {
         print_refusal(placed(verdict, place));
     }
-    io::write_all(STDOUT_FILENO, text_inputs::front(&out, told.bytes));
+    io::write_all(STDOUT, text_inputs::front(&out, told.bytes));
     let row = answered.row;
     let lasts = told.lasts;
     let kind = verdict.refusal;

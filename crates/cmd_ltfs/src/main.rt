@@ -3,8 +3,13 @@
 // The answer is proved in `answer_ltfs`; what is read and written here is tested and not proved.
 #![tactic(auto)]
 
-use libc::{STDERR_FILENO, STDIN_FILENO, STDOUT_FILENO};
 use text_inputs::front;
+
+const STDIN: i32 = 0;
+
+const STDOUT: i32 = 1;
+
+const STDERR: i32 = 2;
 
 // A long row comes from a function of its own: where it is made and lent in one, the check counts its entries one by one.
 fn empty_input() -> [u8; 524289] {
@@ -16,8 +21,8 @@ fn main() {
     let mut input = empty_input();
     let mut out = [0u8; 16384];
     let mut notes = [0u8; 54];
-    let n = io::read_full(STDIN_FILENO, &mut input);
+    let n = io::read_full(STDIN, &mut input);
     let told = answer_ltfs::answer(&input[..n], &mut out, &mut notes);
-    io::write_all(STDOUT_FILENO, front(&out, told.bytes));
-    io::write_all(STDERR_FILENO, front(&notes, told.noted));
+    io::write_all(STDOUT, front(&out, told.bytes));
+    io::write_all(STDERR, front(&notes, told.noted));
 }

@@ -2,9 +2,14 @@
 // say why not to standard output. The answer is proved in `answer_mend` and `sheet_writer`; what is read and written here is tested and not proved.
 #![tactic(auto)]
 
-use libc::{STDERR_FILENO, STDIN_FILENO, STDOUT_FILENO};
 use refusals::{Verdict, refused};
 use text_inputs::front;
+
+const STDIN: i32 = 0;
+
+const STDOUT: i32 = 1;
+
+const STDERR: i32 = 2;
 
 // A long row comes from a function of its own: where it is made and lent in one, the check counts its entries one by one.
 fn empty_notes() -> [u8; 98424] {
@@ -16,7 +21,7 @@ fn main() {
     let mut sheet = [0u8; 16385];
     let mut out = [0u8; 16384];
     let mut notes = empty_notes();
-    let n = io::read_full(STDIN_FILENO, &mut sheet);
+    let n = io::read_full(STDIN, &mut sheet);
     let mended = answer_mend::mend(&sheet[..n], &mut out, &mut notes);
     let refusal = mended.refusal;
     let verdict = Verdict {
@@ -25,9 +30,9 @@ fn main() {
     };
     if refused(verdict) {
         let lines = sheet_writer::write_refusal(verdict, &mut out);
-        io::write_all(STDOUT_FILENO, front(&out, lines.bytes));
+        io::write_all(STDOUT, front(&out, lines.bytes));
         return;
     }
-    io::write_all(STDOUT_FILENO, front(&out, mended.bytes));
-    io::write_all(STDERR_FILENO, front(&notes, mended.noted));
+    io::write_all(STDOUT, front(&out, mended.bytes));
+    io::write_all(STDERR, front(&notes, mended.noted));
 }

@@ -4,7 +4,8 @@
 #![tactic(auto)]
 
 use answer_month::{Month, Part};
-use libc::STDOUT_FILENO;
+
+const STDOUT: i32 = 1;
 
 // A month, whether the input was good so far, and whether it has ended.
 #[derive(Clone, Copy)]
@@ -55,7 +56,7 @@ fn take_part(month: Month) -> Step {
 fn print_page(month: Month, good: bool) {
     let mut page = [0u8; 2048];
     let bytes = answer_month::write_month(month, answer_month::judge_input(month, good), &mut page);
-    io::write_all(STDOUT_FILENO, text_inputs::front(&page, bytes as u64));
+    io::write_all(STDOUT, text_inputs::front(&page, bytes as u64));
 }
 
 // Behind a thousand sheets the input has ended, or is refused: there are no more than a thousand turns and one.

@@ -2,14 +2,17 @@
 // The answer is proved in `answer_plan`; what is read and written here is tested and not proved.
 #![tactic(auto)]
 
-use libc::{STDIN_FILENO, STDOUT_FILENO};
 use text_inputs::front;
+
+const STDIN: i32 = 0;
+
+const STDOUT: i32 = 1;
 
 // A byte more than a sheet may have is read. No answer is longer than 7,644 bytes.
 fn main() {
     let mut sheet = [0u8; 16385];
     let mut out = [0u8; 7644];
-    let n = io::read_full(STDIN_FILENO, &mut sheet);
+    let n = io::read_full(STDIN, &mut sheet);
     let bytes = answer_plan::recall(&sheet[..n], &mut out);
-    io::write_all(STDOUT_FILENO, front(&out, bytes));
+    io::write_all(STDOUT, front(&out, bytes));
 }

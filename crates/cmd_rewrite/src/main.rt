@@ -2,15 +2,18 @@
 // say why not. The answer is proved in `answer_rewrite` and `sheet_writer`; what is read and written here is tested and not proved.
 #![tactic(auto)]
 
-use libc::{STDIN_FILENO, STDOUT_FILENO};
 use refusals::{Verdict, refused};
 use text_inputs::front;
+
+const STDIN: i32 = 0;
+
+const STDOUT: i32 = 1;
 
 // A byte more than a sheet may have is read. No result is longer than a sheet may be.
 fn main() {
     let mut sheet = [0u8; 16385];
     let mut out = [0u8; 16384];
-    let n = io::read_full(STDIN_FILENO, &mut sheet);
+    let n = io::read_full(STDIN, &mut sheet);
     let written = answer_rewrite::rewrite(&sheet[..n], &mut out);
     let refusal = written.refusal;
     let verdict = Verdict {
@@ -19,8 +22,8 @@ fn main() {
     };
     if refused(verdict) {
         let lines = sheet_writer::write_refusal(verdict, &mut out);
-        io::write_all(STDOUT_FILENO, front(&out, lines.bytes));
+        io::write_all(STDOUT, front(&out, lines.bytes));
         return;
     }
-    io::write_all(STDOUT_FILENO, front(&out, written.bytes));
+    io::write_all(STDOUT, front(&out, written.bytes));
 }

@@ -5,8 +5,9 @@
 ghost use Rattle.std.specs.Prelude.{◌≡◌, ◌+◌, ◌≤◌, min, length, take};
 ghost use Rattle.text_inputs.specs.Inputs.{framed, framed_behind, part_in, part_place, LineRead, ReadOf};
 
-use libc::STDIN_FILENO;
 use text_lines::NumberLine;
+
+const STDIN: i32 = 0;
 
 // Where a sheet stands in an input. What follows it is the other text.
 #[derive(Clone, Copy)]
@@ -87,7 +88,7 @@ enum Next {
 
 fn next_byte() -> Next {
     let mut byte = [0u8; 1];
-    if io::read_full(STDIN_FILENO, &mut byte) == 0 {
+    if io::read_full(STDIN, &mut byte) == 0 {
         return Next::End;
     }
     Next::Byte(byte[0])
@@ -126,7 +127,7 @@ fn pass_some(left: u64) -> u64
 {
     let mut space = io::large_buffer();
     let most = least(left, 65536) as usize;
-    let got = io::read_full(STDIN_FILENO, &mut space[..most]);
+    let got = io::read_full(STDIN, &mut space[..most]);
     least(got as u64, left)
 }
 
@@ -148,7 +149,7 @@ fn pass_over(bytes: u64) -> u64
 // So many bytes into the front of a row: how many there were.
 fn read_front(row: &mut [u8], most: usize) -> usize {
     if most <= row.len() {
-        return io::read_full(STDIN_FILENO, &mut row[..most]);
+        return io::read_full(STDIN, &mut row[..most]);
     }
     0
 }

@@ -7,14 +7,17 @@ use borrow.Author.Rules.{rules}
 use Rattle.text_inputs.proofs.front.Statement.{statement}
 use Rattle.text_inputs.proofs.front.Tie as tie
 
-slice-aggregate-result : tie.Need-slice-aggregate-result
-slice-aggregate-result c = sym (length-take-le _ _ c.before.if1.true)
+slice-aggregate-result : tie.Need-slice_bounds-result-end
+slice-aggregate-result c = sym (length-take-le _ _ c.if-end-row.true)
 
-returns : tie.Need-returns
+returns : tie.Need-returns-then-end-row
 returns c = search rules
 
-returns-2 : tie.Need-returns-2
-returns-2 c = (whole_row _ _ c.if1.false, refl)
+returns-2 : tie.Need-returns
+returns-2 c = (whole_row _ _ c.if-end-row.false, refl)
 
-pub front-spec : {M : Type 1} → statement M
-front-spec = tie.close (tie.spec slice-aggregate-result returns returns-2)
+pub front_spec : {M : Type 1} → statement M
+front_spec = tie.close (tie.spec
+    slice-aggregate-result
+    returns
+    returns-2)

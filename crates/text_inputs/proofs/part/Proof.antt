@@ -5,20 +5,25 @@ use borrow.Author.Rules.{rules}
 use Rattle.text_inputs.proofs.part.Statement.{statement}
 use Rattle.text_inputs.proofs.part.Tie as tie
 
-part-result-start : tie.Need-slice-bounds-result-start
+part-result-start : tie.Need-slice_bounds-result-start
 part-result-start c = search rules
 
-part-result-end : tie.Need-slice-bounds-result-end
+part-result-end : tie.Need-slice_bounds-result-end
 part-result-end c = search rules
 
-returns : tie.Need-returns
-returns c = (part_there _ _ _ c.before.before.if1.true c.before.if2.true, place_there _ _ _ _ c.before.before.if1.true c.before.if2.true)
+returns : tie.Need-returns-then-to-text
+returns c = (part_there _ _ _ c.if-from-to.true c.if-to-text.true, place_there _ _ _ _ c.if-from-to.true c.if-to-text.true)
 
-returns-2 : tie.Need-returns-2
-returns-2 c = (part_beyond _ _ _ c.before.if1.true c.if2.false, place_beyond _ _ _ _ c.before.if1.true c.if2.false)
+returns-2 : tie.Need-returns-else-to-text
+returns-2 c = (part_beyond _ _ _ c.if-from-to.true c.if-to-text.false, place_beyond _ _ _ _ c.if-from-to.true c.if-to-text.false)
 
-returns-3 : tie.Need-returns-3
-returns-3 c = (part_backwards _ _ _ c.if1.false, place_backwards _ _ _ _ c.if1.false)
+returns-3 : tie.Need-returns-else-from-to
+returns-3 c = (part_backwards _ _ _ c.if-from-to.false, place_backwards _ _ _ _ c.if-from-to.false)
 
-pub part-spec : {M : Type 1} → statement M
-part-spec = tie.close (tie.spec part-result-start part-result-end returns returns-2 returns-3)
+pub part_spec : {M : Type 1} → statement M
+part_spec = tie.close (tie.spec
+    part-result-start
+    part-result-end
+    returns
+    returns-2
+    returns-3)

@@ -5,38 +5,38 @@ use borrow.Author.Rules.{rules}
 use Rattle.text_inputs.proofs.pass_over.Statement.{statement}
 use Rattle.text_inputs.proofs.pass_over.Tie as tie
 
-abbrev invariant-loop : tie.invariant-loop
+abbrev invariant-loop : tie.invariant-loop-left
 invariant-loop bytes left₀ left = left ≤ bytes
 
-abbrev decreases-loop : tie.decreases-loop
+abbrev decreases-loop : tie.decreases-loop-left
 decreases-loop bytes left₀ left = left
 
-loop-holds : tie.Need-loop-init invariant-loop decreases-loop
+loop-holds : tie.Need-loop-left-init invariant-loop decreases-loop
 loop-holds c = search rules
 
-pass-some-requires : tie.Need-pass-some-requires invariant-loop decreases-loop
+pass-some-requires : tie.Need-pass_some-some-requires invariant-loop decreases-loop
 pass-some-requires c κs = search rules
 
-sub-result : tie.Need-overflow-sub-result invariant-loop decreases-loop
+sub-result : tie.Need-overflow_sub-result invariant-loop decreases-loop
 sub-result c = search rules
 
-returns : tie.Need-returns invariant-loop decreases-loop
+returns : tie.Need-returns-then-some-eq0 invariant-loop decreases-loop
 returns c = search rules
 
-sub-left : tie.Need-overflow-sub-left invariant-loop decreases-loop
+sub-left : tie.Need-overflow_sub-left invariant-loop decreases-loop
 sub-left c = search rules
 
-loop-less : tie.Need-loop-smaller invariant-loop decreases-loop
+loop-less : tie.Need-loop-left-smaller invariant-loop decreases-loop
 loop-less c = search rules
 
-loop-again : tie.Need-loop-preserved invariant-loop decreases-loop
+loop-again : tie.Need-loop-left-preserved invariant-loop decreases-loop
 loop-again c = search rules
 
-returns-2 : tie.Need-returns-2 invariant-loop decreases-loop
+returns-2 : tie.Need-returns invariant-loop decreases-loop
 returns-2 c = search rules
 
-pub pass-over-spec : {M : Type 1} → statement M
-pass-over-spec =
+pub pass_over_spec : {M : Type 1} → statement M
+pass_over_spec =
     tie.close
     (tie.spec
     invariant-loop

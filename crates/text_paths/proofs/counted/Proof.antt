@@ -6,14 +6,17 @@ use native.Mathlib.Numerals.{add-one}
 use Rattle.text_paths.proofs.counted.Statement.{statement}
 use Rattle.text_paths.proofs.counted.Tie as tie
 
-add-result : tie.Need-overflow-add-result
+add-result : tie.Need-overflow_add-result
 add-result c = search rules
 
-returns : tie.Need-returns
-returns c = simp (eq-eqb _ _ c.if1.true, add-one)
+returns : tie.Need-returns-then-byte-eq10
+returns c = simp (eq-eqb _ _ c.if-byte-eq10.true, add-one)
 
-returns-2 : tie.Need-returns-2
-returns-2 c = simp (ne_eqb _ _ c.if1.false)
+returns-2 : tie.Need-returns
+returns-2 c = simp (ne_eqb _ _ c.if-byte-eq10.false)
 
 pub counted_spec : {M : Type 1} → statement M
-counted_spec = tie.close (tie.spec add-result returns returns-2)
+counted_spec = tie.close (tie.spec
+    add-result
+    returns
+    returns-2)

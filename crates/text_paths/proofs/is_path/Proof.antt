@@ -8,38 +8,38 @@ use Rattle.text_paths.proofs.Asked.{PathLeft, path_none, path_stray, path_passed
 use Rattle.text_paths.proofs.is_path.Statement.{statement}
 use Rattle.text_paths.proofs.is_path.Tie as tie
 
-abbrev invariant-loop : tie.invariant-loop
+abbrev invariant-loop : tie.invariant-loop-i
 invariant-loop text begun₀ i₀ begun i = PathLeft text begun i
 
-abbrev decreases-loop : tie.decreases-loop
+abbrev decreases-loop : tie.decreases-loop-i
 decreases-loop text begun₀ i₀ begun i = length text - i
 
-loop-holds : tie.Need-loop-init invariant-loop decreases-loop
+loop-holds : tie.Need-loop-i-init invariant-loop decreases-loop
 loop-holds c = path_none _
 
-shared-slice-read-byte : tie.Need-shared-slice-read-byte invariant-loop decreases-loop
+shared-slice-read-byte : tie.Need-bounds-text-i invariant-loop decreases-loop
 shared-slice-read-byte c = search rules
 
-is-stray-requires : tie.Need-is-stray-requires invariant-loop decreases-loop
+is-stray-requires : tie.Need-is_stray-requires invariant-loop decreases-loop
 is-stray-requires c κs = search rules
 
-returns : tie.Need-returns invariant-loop decreases-loop
-returns c = let al = c.before.before.before.before in path_stray _ _ _ al.loop.invariant (search rules) (sym c.before.is-stray.ensures ∙ c.if1.true)
+returns : tie.Need-returns-then-is_stray invariant-loop decreases-loop
+returns c = let al = c in path_stray _ _ _ al.loop-i.invariant (search rules) (sym c.is_stray.ensures ∙ c.if-is_stray.true)
 
-add-i : tie.Need-overflow-add-i invariant-loop decreases-loop
+add-i : tie.Need-overflow_add-i invariant-loop decreases-loop
 add-i c = search rules
 
-loop-less : tie.Need-loop-smaller invariant-loop decreases-loop
+loop-less : tie.Need-loop-i-smaller invariant-loop decreases-loop
 loop-less c = search rules
 
-loop-again : tie.Need-loop-preserved invariant-loop decreases-loop
-loop-again c = let al = c.before.before.before.before in path_passed _ _ _ al.loop.invariant (search rules) (sym c.before.is-stray.ensures ∙ c.if1.false)
+loop-again : tie.Need-loop-i-preserved invariant-loop decreases-loop
+loop-again c = let al = c in path_passed _ _ _ al.loop-i.invariant (search rules) (sym c.is_stray.ensures ∙ c.if-is_stray.false)
 
-returns-2 : tie.Need-returns-2 invariant-loop decreases-loop
-returns-2 c = path_done _ _ _ c.before.loop.invariant c.loop-test.false
+returns-2 : tie.Need-returns invariant-loop decreases-loop
+returns-2 c = path_done _ _ _ c.loop-i.invariant c.loop-i-test.false
 
-pub is-path-spec : {M : Type 1} → statement M
-is-path-spec =
+pub is_path_spec : {M : Type 1} → statement M
+is_path_spec =
     tie.close
     (tie.spec
     invariant-loop

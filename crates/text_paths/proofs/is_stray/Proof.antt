@@ -5,11 +5,13 @@ use borrow.Author.Tests.{eq-eqb, ne_eqb}
 use Rattle.text_paths.proofs.is_stray.Statement.{statement}
 use Rattle.text_paths.proofs.is_stray.Tie as tie
 
-returns : tie.Need-returns
+returns : tie.Need-returns-then-begun
 returns c = search rules
 
-returns-2 : tie.Need-returns-2
-returns-2 c = simp c.if1.false
+returns-2 : tie.Need-returns
+returns-2 c = simp c.if-begun.false
 
-pub is-stray-spec : {M : Type 1} → statement M
-is-stray-spec = tie.close (tie.spec returns returns-2)
+pub is_stray_spec : {M : Type 1} → statement M
+is_stray_spec = tie.close (tie.spec
+    returns
+    returns-2)

@@ -5,51 +5,47 @@ use Rattle.text_paths.proofs.Asked.{line_absent, line_bounds, path_bad, path_goo
 use Rattle.text_paths.proofs.path_line.Statement.{statement}
 use Rattle.text_paths.proofs.path_line.Tie as tie
 
-slice-aggregate-find-value : tie.Need-slice-aggregate-find-value
-slice-aggregate-find-value c = search rules
-
-find-value-requires : tie.Need-find-value-requires
+find-value-requires : tie.Need-find_value-requires
 find-value-requires c κs = search rules
 
-enum-known-start : tie.Need-enum-known-start
+enum-known-start : tie.Need-enum_known-start
 enum-known-start c = search rules
 
-enum_told : tie.Need-enum-told
+enum_told : tie.Need-enum_told-1
 enum_told c = search rules
 
-returns : tie.Need-returns
-returns c = line_absent _ _ _ c.before.before.find-value.ensures c.enum_told.given.1
+returns : tie.Need-returns-in_default
+returns c = line_absent _ _ _ c.find_value.ensures c.in_default.is
 
-behind-slash-requires : tie.Need-behind-slash-requires
-behind-slash-requires c κs = line_bounds _ _ _ c.before.before.before.find-value.ensures _ _ c.before.start.given.1
+behind-slash-requires : tie.Need-behind_slash-from-requires
+behind-slash-requires c κs = line_bounds _ _ _ c.find_value.ensures _ _ c.in-Text.is
 
-sub-is-path : tie.Need-overflow-sub-is-path
+sub-is-path : tie.Need-slice_bounds-is_path-count
 sub-is-path c = search rules
 
-part-is-path-start : tie.Need-slice-bounds-is-path-start
+part-is-path-start : tie.Need-slice_bounds-is_path-start
 part-is-path-start c = search rules
 
-part-is-path-end : tie.Need-slice-bounds-is-path-end
-part-is-path-end c = (line_bounds _ _ _ c.before.before.before.before.find-value.ensures _ _ c.before.before.start.given.1).1
+part-is-path-end : tie.Need-slice_bounds-is_path-end
+part-is-path-end c = (line_bounds _ _ _ c.find_value.ensures _ _ c.in-Text.is).1
 
-is-path-requires : tie.Need-is-path-requires
+is-path-requires : tie.Need-is_path-requires
 is-path-requires c κs = search rules
 
 -- What stands on the line, from the place behind its `/`.
-abbrev found_at : tie.After-behind-slash → tie.After-find-value
-found_at b = b.before.before.before.before
+abbrev found_at : tie.After-behind_slash-from → tie.After-find_value
+found_at b = b.before.before
 
-returns-2 : tie.Need-returns-2
-returns-2 c = let b = c.before.before.before in path_good _ _ _ (found_at b).find-value.ensures _ _ b.before.before.start.given.1 _ b.behind-slash.ensures.0 _ c.before.is-path.ensures c.if1.true
+returns-2 : tie.Need-returns-then-is_path
+returns-2 c = let b = c in path_good _ _ _ (found_at b.before.before.before).find_value.ensures _ _ b.in-Text.is _ b.behind_slash-from.ensures.0 _ c.is_path.ensures c.if-is_path.true
 
-returns-3 : tie.Need-returns-3
-returns-3 c = let b = c.before.before.before in path_bad _ _ _ (found_at b).find-value.ensures _ _ b.before.before.start.given.1 _ b.behind-slash.ensures.0 _ c.before.is-path.ensures c.if1.false
+returns-3 : tie.Need-returns
+returns-3 c = let b = c in path_bad _ _ _ (found_at b.before.before.before).find_value.ensures _ _ b.in-Text.is _ b.behind_slash-from.ensures.0 _ c.is_path.ensures c.if-is_path.false
 
-pub path-line-spec : {M : Type 1} → statement M
-path-line-spec =
+pub path_line_spec : {M : Type 1} → statement M
+path_line_spec =
     tie.close
     (tie.spec
-    slice-aggregate-find-value
     find-value-requires
     enum-known-start
     enum_told

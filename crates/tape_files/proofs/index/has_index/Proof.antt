@@ -5,29 +5,25 @@ use borrow.Author.Rules.{rules}
 use Rattle.tape_files.proofs.index.has_index.Statement.{statement}
 use Rattle.tape_files.proofs.index.has_index.Tie as tie
 
-slice-aggregate-named-from : tie.Need-slice-aggregate-named-from
-slice-aggregate-named-from c = search rules
-
-named-from-requires : tie.Need-named-from-requires
+named-from-requires : tie.Need-named_from-met-requires
 named-from-requires c κs = search rules
 
-enum_told : tie.Need-enum-told
+enum_told : tie.Need-enum_told-1
 enum_told c = search rules
 
-enum-told-2 : tie.Need-enum-told-2
+enum-told-2 : tie.Need-enum_told-in-Done
 enum-told-2 c = search rules
 
-returns : tie.Need-returns
-returns c = index_found _ _ (rw c.enum_told.given.1 at c.before.before.named-from.ensures)
+returns : tie.Need-returns-in-At
+returns c = index_found _ _ (rw c.in-At.is at c.named_from-met.ensures)
 
-returns-2 : tie.Need-returns-2
-returns-2 c = index_nowhere _ _ (rw c.enum-told2.given.1 at c.before.before.named-from.ensures)
+returns-2 : tie.Need-returns-in-Done
+returns-2 c = index_nowhere _ _ (rw c.in-Done.is at c.named_from-met.ensures)
 
-pub has-index-spec : {M : Type 1} → statement M
-has-index-spec =
+pub has_index_spec : {M : Type 1} → statement M
+has_index_spec =
     tie.close
     (tie.spec
-    slice-aggregate-named-from
     named-from-requires
     enum_told
     enum-told-2

@@ -13,82 +13,74 @@ use Rattle.tape_files.proofs.Whole.{label_whole}
 use Rattle.tape_files.proofs.labels.read_label.Statement.{statement}
 use Rattle.tape_files.proofs.labels.read_label.Tie as tie
 
-abbrev invariant-loop : tie.invariant-loop
+abbrev invariant-loop : tie.invariant-loop-inner
 invariant-loop text size₀ partition₀ here₀ t11 t12 size partition here =
     ReadTo (field_step number_field (block_size_name ∷ [])) label_name text here₀ size₀ size here × ReadTo (field_step letter_field (partitions_name ∷ data_name ∷ [])) label_name text here₀ partition₀ partition here
 
-abbrev decreases-loop : tie.decreases-loop
+abbrev decreases-loop : tie.decreases-loop-inner
 decreases-loop text size₀ partition₀ here₀ t11 t12 size partition here = length (tokens_at text here)
 
-loop-holds : tie.Need-loop-init invariant-loop decreases-loop
+loop-holds : tie.Need-loop-inner-init invariant-loop decreases-loop
 loop-holds c = (read_none (field_step number_field (block_size_name ∷ [])) _ _ _ _ (omega arith), read_none (field_step letter_field (partitions_name ∷ data_name ∷ [])) _ _ _ _ (omega arith))
 
-slice-aggregate-named-from : tie.Need-slice-aggregate-named-from invariant-loop decreases-loop
-slice-aggregate-named-from c = search rules
+named-from-requires : tie.Need-named_from-met-requires invariant-loop decreases-loop
+named-from-requires c κs = c.loop-inner.invariant.0.around.within
 
-named-from-requires : tie.Need-named-from-requires invariant-loop decreases-loop
-named-from-requires c κs = c.before.loop.invariant.0.around.within
-
-enum_told : tie.Need-enum-told invariant-loop decreases-loop
+enum_told : tie.Need-enum_told-1 invariant-loop decreases-loop
 enum_told c = search rules
 
-returns : tie.Need-returns invariant-loop decreases-loop
+returns : tie.Need-returns-in-Done invariant-loop decreases-loop
 returns c =
-    let c2 = c.before.before in
-    let c4 = c2.before.before in
-    let m = rw c.enum_told.given.1 at c2.named-from.ensures in
-    label_whole _ _ _ (read_over (field_step number_field (block_size_name ∷ [])) _ _ _ _ _ _ c4.loop.invariant.0 _ m).0 (read_over (field_step letter_field (partitions_name ∷ data_name ∷ [])) _ _ _ _ _ _ c4.loop.invariant.1 _ m).0
+    let c2 = c in
+    let c4 = c2 in
+    let m = rw c.in-Done.is at c2.named_from-met.ensures in
+    label_whole _ _ _ (read_over (field_step number_field (block_size_name ∷ [])) _ _ _ _ _ _ c4.loop-inner.invariant.0 _ m).0 (read_over (field_step letter_field (partitions_name ∷ data_name ∷ [])) _ _ _ _ _ _ c4.loop-inner.invariant.1 _ m).0
 
-enum-known-met : tie.Need-enum-known-met invariant-loop decreases-loop
+enum-known-met : tie.Need-enum_known-met invariant-loop decreases-loop
 enum-known-met c = search rules
 
-slice-aggregate-read-field : tie.Need-slice-aggregate-read-field invariant-loop decreases-loop
-slice-aggregate-read-field c = search rules
+read-field-requires : tie.Need-read_field-sizes-requires invariant-loop decreases-loop
+read-field-requires c κs = let c2 = c in let m = rw c2.in-At.is at c2.named_from-met.ensures in m.within
 
-read-field-requires : tie.Need-read-field-requires invariant-loop decreases-loop
-read-field-requires c κs = let c2 = c.before.before in let m = rw c2.met.given.1 at c2.before.before.named-from.ensures in m.within
+read-partitions-requires : tie.Need-read_partitions-partitions-requires invariant-loop decreases-loop
+read-partitions-requires c κs = let c3 = c in let m = rw c3.in-At.is at c3.named_from-met.ensures in m.within
 
-read-partitions-requires : tie.Need-read-partitions-requires invariant-loop decreases-loop
-read-partitions-requires c κs = let c3 = c.before.before.before in let m = rw c3.met.given.1 at c3.before.before.named-from.ensures in m.within
-
-first-field-requires : tie.Need-first-field-requires invariant-loop decreases-loop
+first-field-requires : tie.Need-first_field-size-requires invariant-loop decreases-loop
 first-field-requires c κs = search rules
 
-first-field-requires-2 : tie.Need-first-field-requires-2 invariant-loop decreases-loop
+first-field-requires-2 : tie.Need-first_field-partition-requires invariant-loop decreases-loop
 first-field-requires-2 c κs = search rules
 
-loop-less : tie.Need-loop-smaller invariant-loop decreases-loop
+loop-less : tie.Need-loop-inner-smaller invariant-loop decreases-loop
 loop-less c =
-    let c2 = c.before.before in
-    let c6 = c2.before.before.before.before in
-    read_less _ _ _ _ _ (rw c6.met.given.1 at c6.before.before.named-from.ensures) c2.read-partitions.ensures.1
+    let c2 = c in
+    let c6 = c2 in
+    read_less _ _ _ _ _ (rw c6.in-At.is at c6.named_from-met.ensures) c2.read_partitions-partitions.ensures.1
 
-loop-again : tie.Need-loop-preserved invariant-loop decreases-loop
+loop-again : tie.Need-loop-inner-preserved invariant-loop decreases-loop
 loop-again c =
-    let c2 = c.before.before in
-    let c3 = c2.before in
-    let c6 = c3.before.before.before in
-    let c8 = c6.before.before in
-    let c10 = c8.before.before in
-    let m = rw c6.met.given.1 at c8.named-from.ensures in
-    let left = c2.read-partitions.ensures.1 in (
-      read_more (field_step number_field (block_size_name ∷ [])) _ _ _ _ _ _ c10.loop.invariant.0 _ _ _ m left (c.before.first_field.ensures ∙ ap (first_field c10.loop.size) c3.read-field.ensures.1),
-      read_more (field_step letter_field (partitions_name ∷ data_name ∷ [])) _ _ _ _ _ _ c10.loop.invariant.1 _ _ _ m left (c.first-field2.ensures ∙ ap (first_field c10.loop.partition) c2.read-partitions.ensures.0),
+    let c2 = c in
+    let c3 = c2 in
+    let c6 = c3 in
+    let c8 = c6 in
+    let c10 = c8 in
+    let m = rw c6.in-At.is at c8.named_from-met.ensures in
+    let left = c2.read_partitions-partitions.ensures.1 in (
+      read_more (field_step number_field (block_size_name ∷ [])) _ _ _ _ _ _ c10.loop-inner.invariant.0 _ _ _ m left (c.first_field-size.ensures ∙ ap (first_field c10.loop-inner.size) c3.read_field-sizes.ensures.1),
+      read_more (field_step letter_field (partitions_name ∷ data_name ∷ [])) _ _ _ _ _ _ c10.loop-inner.invariant.1 _ _ _ m left (c.first_field-partition.ensures ∙ ap (first_field c10.loop-inner.partition) c2.read_partitions-partitions.ensures.0),
     )
 
-pub read-label-spec : {M : Type 1} → statement M
-read-label-spec =
+pub read_label_spec : {M : Type 1} → statement M
+read_label_spec =
     tie.close
     (tie.spec
     invariant-loop
     decreases-loop
     loop-holds
-    slice-aggregate-named-from
     named-from-requires
     enum_told
     returns
     enum-known-met
-    slice-aggregate-read-field
     read-field-requires
     read-partitions-requires
     first-field-requires

@@ -11,72 +11,64 @@ use Rattle.tape_files.proofs.Bare.{ReadTo, read_none, read_more, read_over, read
 use Rattle.tape_files.proofs.labels.read_partitions.Statement.{statement}
 use Rattle.tape_files.proofs.labels.read_partitions.Tie as tie
 
-abbrev invariant-loop : tie.invariant-loop
+abbrev invariant-loop : tie.invariant-loop-next
 invariant-loop text partition₀ here₀ t10 t11 partition here =
     ReadTo (field_step letter_field (data_name ∷ [])) partitions_name text here₀ partition₀ partition here
 
-abbrev decreases-loop : tie.decreases-loop
+abbrev decreases-loop : tie.decreases-loop-next
 decreases-loop text partition₀ here₀ t10 t11 partition here = length (tokens_at text here)
 
-loop-holds : tie.Need-loop-init invariant-loop decreases-loop
-loop-holds c = read_none (field_step letter_field (data_name ∷ [])) _ _ _ _ c.before.requires
+loop-holds : tie.Need-loop-next-init invariant-loop decreases-loop
+loop-holds c = read_none (field_step letter_field (data_name ∷ [])) _ _ _ _ c.requires
 
-slice-aggregate-named-from : tie.Need-slice-aggregate-named-from invariant-loop decreases-loop
-slice-aggregate-named-from c = search rules
+named-from-requires : tie.Need-named_from-met-requires invariant-loop decreases-loop
+named-from-requires c κs = c.loop-next.invariant.around.within
 
-named-from-requires : tie.Need-named-from-requires invariant-loop decreases-loop
-named-from-requires c κs = c.before.loop.invariant.around.within
-
-enum-known-met : tie.Need-enum-known-met invariant-loop decreases-loop
+enum-known-met : tie.Need-enum_known-met invariant-loop decreases-loop
 enum-known-met c = search rules
 
-returns : tie.Need-returns invariant-loop decreases-loop
+returns : tie.Need-returns-in-Done invariant-loop decreases-loop
 returns c =
-    let c1 = c.before in
-    let c3 = c1.before.before in
-    let r = read_over (field_step letter_field (data_name ∷ [])) _ _ _ _ _ _ c3.before.before.loop.invariant _ (rw c1.met.given.1 at c3.named-from.ensures) in
+    let c1 = c in
+    let c3 = c1 in
+    let r = read_over (field_step letter_field (data_name ∷ [])) _ _ _ _ _ _ c3.loop-next.invariant _ (rw c1.in-Done.is at c3.named_from-met.ensures) in
     (r.0 ∙ field_said letter_field (data_name ∷ []) partitions_name _, r.1)
 
-enum-known-met-2 : tie.Need-enum-known-met-2 invariant-loop decreases-loop
+enum-known-met-2 : tie.Need-enum_known-met-in-At-1 invariant-loop decreases-loop
 enum-known-met-2 c = search rules
 
-slice-aggregate-read-field : tie.Need-slice-aggregate-read-field invariant-loop decreases-loop
-slice-aggregate-read-field c = search rules
+read-field-requires : tie.Need-read_field-read-requires invariant-loop decreases-loop
+read-field-requires c κs = let c2 = c in let m = rw c2.in-At.is at c2.named_from-met.ensures in m.within
 
-read-field-requires : tie.Need-read-field-requires invariant-loop decreases-loop
-read-field-requires c κs = let c2 = c.before.before in let m = rw c2.met2.given.1 at c2.before.before.named-from.ensures in m.within
-
-first-field-requires : tie.Need-first-field-requires invariant-loop decreases-loop
+first-field-requires : tie.Need-first_field-partition-requires invariant-loop decreases-loop
 first-field-requires c κs = search rules
 
-loop-less : tie.Need-loop-smaller invariant-loop decreases-loop
+loop-less : tie.Need-loop-next-smaller invariant-loop decreases-loop
 loop-less c =
-    let c1 = c.before in
-    let c4 = c1.before.before.before in
-    read_less _ _ _ _ _ (rw c4.met2.given.1 at c4.before.before.named-from.ensures) c1.read-field.ensures.2
+    let c1 = c in
+    let c4 = c1 in
+    read_less _ _ _ _ _ (rw c4.in-At.is at c4.named_from-met.ensures) c1.read_field-read.ensures.2
 
-loop-again : tie.Need-loop-preserved invariant-loop decreases-loop
+loop-again : tie.Need-loop-next-preserved invariant-loop decreases-loop
 loop-again c =
-    let c1 = c.before in
-    let c4 = c1.before.before.before in
-    let c6 = c4.before.before in
-    let c8 = c6.before.before in
-    read_more (field_step letter_field (data_name ∷ [])) _ _ _ _ _ _ c8.loop.invariant _ _ _ (rw c4.met2.given.1 at c6.named-from.ensures) c1.read-field.ensures.2
-    (c.first_field.ensures ∙ ap (first_field c8.loop.partition) c1.read-field.ensures.0)
+    let c1 = c in
+    let c4 = c1 in
+    let c6 = c4 in
+    let c8 = c6 in
+    read_more (field_step letter_field (data_name ∷ [])) _ _ _ _ _ _ c8.loop-next.invariant _ _ _ (rw c4.in-At.is at c6.named_from-met.ensures) c1.read_field-read.ensures.2
+    (c.first_field-partition.ensures ∙ ap (first_field c8.loop-next.partition) c1.read_field-read.ensures.0)
 
-pub read-partitions-spec : {M : Type 1} → statement M
-read-partitions-spec =
+pub read_partitions_spec : {M : Type 1} → statement M
+read_partitions_spec =
     tie.close
     (tie.spec
     invariant-loop
     decreases-loop
     loop-holds
-    slice-aggregate-named-from
     named-from-requires
     enum-known-met
     returns
     enum-known-met-2
-    slice-aggregate-read-field
     read-field-requires
     first-field-requires
     loop-less

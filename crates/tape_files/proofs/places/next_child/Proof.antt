@@ -5,14 +5,17 @@ use Rattle.tape_files.proofs.Placing.{placed_within}
 use Rattle.tape_files.proofs.places.next_child.Statement.{statement}
 use Rattle.tape_files.proofs.places.next_child.Tie as tie
 
-place-in-requires : tie.Need-place-in-requires
+place-in-requires : tie.Need-place_in-requires
 place-in-requires c κs = search rules
 
-child-from-requires : tie.Need-child-from-requires
+child-from-requires : tie.Need-child_from-requires
 child-from-requires c κs = rw c.IsPlace-in.ensures (placed_within _ _)
 
 returns : tie.Need-returns
-returns c = rw c.before.IsPlace-in.ensures at c.child-from.ensures
+returns c = rw c.IsPlace-in.ensures at c.child_from.ensures
 
-pub next-child-spec : {M : Type 1} → statement M
-next-child-spec = tie.close (tie.spec place-in-requires child-from-requires returns)
+pub next_child_spec : {M : Type 1} → statement M
+next_child_spec = tie.close (tie.spec
+    place-in-requires
+    child-from-requires
+    returns)

@@ -5,14 +5,17 @@ use Rattle.tape_files.proofs.Placing.{placed_within}
 use Rattle.tape_files.proofs.places.next_named.Statement.{statement}
 use Rattle.tape_files.proofs.places.next_named.Tie as tie
 
-place-in-requires : tie.Need-place-in-requires
+place-in-requires : tie.Need-place_in-requires
 place-in-requires c κs = search rules
 
-named-from-requires : tie.Need-named-from-requires
+named-from-requires : tie.Need-named_from-requires
 named-from-requires c κs = rw c.IsPlace-in.ensures (placed_within _ _)
 
 returns : tie.Need-returns
-returns c = rw c.before.IsPlace-in.ensures at c.named-from.ensures
+returns c = rw c.IsPlace-in.ensures at c.named_from.ensures
 
-pub next-named-spec : {M : Type 1} → statement M
-next-named-spec = tie.close (tie.spec place-in-requires named-from-requires returns)
+pub next_named_spec : {M : Type 1} → statement M
+next_named_spec = tie.close (tie.spec
+    place-in-requires
+    named-from-requires
+    returns)

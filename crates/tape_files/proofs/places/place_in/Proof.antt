@@ -6,16 +6,19 @@ use Rattle.tape_files.specs.Elements.{taken_for}
 use Rattle.tape_files.proofs.places.place_in.Statement.{statement}
 use Rattle.tape_files.proofs.places.place_in.Tie as tie
 
-lies-in-requires : tie.Need-lies-in-requires
+lies-in-requires : tie.Need-lies_in-requires
 lies-in-requires c κs = search rules
 
-returns : tie.Need-returns
+returns : tie.Need-returns-then-lies_in
 unfolding taken_for
-returns c = simp (sym c.before.lies_in.ensures ∙ c.if1.true)
+returns c = simp (sym c.lies_in.ensures ∙ c.if-lies_in.true)
 
-returns-2 : tie.Need-returns-2
+returns-2 : tie.Need-returns
 unfolding taken_for
-returns-2 c = simp (sym c.before.lies_in.ensures ∙ c.if1.false)
+returns-2 c = simp (sym c.lies_in.ensures ∙ c.if-lies_in.false)
 
-pub place-in-spec : {M : Type 1} → statement M
-place-in-spec = tie.close (tie.spec lies-in-requires returns returns-2)
+pub place_in_spec : {M : Type 1} → statement M
+place_in_spec = tie.close (tie.spec
+    lies-in-requires
+    returns
+    returns-2)

@@ -5,14 +5,17 @@ use Rattle.tape_files.proofs.Placing.{placed_within}
 use Rattle.tape_files.proofs.places.read_extent.Statement.{statement}
 use Rattle.tape_files.proofs.places.read_extent.Tie as tie
 
-place-in-requires : tie.Need-place-in-requires
+place-in-requires : tie.Need-place_in-requires
 place-in-requires c κs = search rules
 
-extent-from-requires : tie.Need-extent-from-requires
+extent-from-requires : tie.Need-extent_from-requires
 extent-from-requires c κs = rw c.IsPlace-in.ensures (placed_within _ _)
 
 returns : tie.Need-returns
-returns c = rw c.before.IsPlace-in.ensures at c.extent-from.ensures
+returns c = rw c.IsPlace-in.ensures at c.extent_from.ensures
 
-pub read-extent-spec : {M : Type 1} → statement M
-read-extent-spec = tie.close (tie.spec place-in-requires extent-from-requires returns)
+pub read_extent_spec : {M : Type 1} → statement M
+read_extent_spec = tie.close (tie.spec
+    place-in-requires
+    extent-from-requires
+    returns)
