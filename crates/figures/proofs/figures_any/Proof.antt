@@ -16,20 +16,20 @@ use borrow.Author.Rules.{rules}
 use Rattle.figures.proofs.figures_any.Statement.{statement}
 use Rattle.figures.proofs.figures_any.Tie as tie
 
-slice-aggregate-price-any : tie.Need-slice-aggregate-price-any
+slice-aggregate-price-any : tie.Need-slice_bounds-price_any-end
 slice-aggregate-price-any c = search rules
 
-slice-aggregate-price-any-2 : tie.Need-slice-aggregate-price-any-2
+slice-aggregate-price-any-2 : tie.Need-slice_bounds-price_any-end-2
 slice-aggregate-price-any-2 c = search rules
 
-price-any-requires : tie.Need-price-any-requires
+price-any-requires : tie.Need-price_any-answer-requires
 price-any-requires c κs = search rules
 
 refused-requires : tie.Need-refused-requires
 refused-requires c κs = search rules
 
 -- The run and the list that were handed in, and what the pricer says of them with rows of 64 entries.
-abbrev start : tie.After-price-any → tie.Start
+abbrev start : tie.After-price_any-answer → tie.Start
 start p = p.before.before.before.before.before.before.before.before.before.before
 
 abbrev run : tie.Start → Run
@@ -41,32 +41,32 @@ rows = read_rows (replicate 64 0) (replicate 64 0)
 long : Long rows
 long = record { times = omega arith; legs = omega arith }
 
-answered : (p : tie.After-price-any) → let s = start p in p.price-any.result ≡ price_any_answer (run s) s.args.froms.now s.args.tos.now rows
-answered p = p.price-any.ensures.0
+answered : (p : tie.After-price_any-answer) → let s = start p in p.price_any-answer.result ≡ price_any_answer (run s) s.args.froms.now s.args.tos.now rows
+answered p = p.price_any-answer.ensures.0
 
-abbrev pricing : tie.After-refused → tie.After-price-any
+abbrev pricing : tie.After-refused → tie.After-price_any-answer
 pricing f = f.before.before.before
 
-said : (f : tie.After-refused) (flag b : Bool) → flag ≡ is_refusal (pricing f).price-any.result.refusal → flag ≡ b
+said : (f : tie.After-refused) (flag b : Bool) → flag ≡ is_refusal (pricing f).price_any-answer.result.refusal → flag ≡ b
     → let s = start (pricing f) in is_refusal (price_any_answer (run s) s.args.froms.now s.args.tos.now rows).refusal ≡ b
 said f flag b is e = ap (λ (a : Answer). is_refusal a.refusal) (sym (answered (pricing f))) ∙ sym is ∙ e
 
-returns : tie.Need-returns
+returns : tie.Need-returns-then-refused
 returns c =
-    let f = c.before in
-    let p = pricing f in
+    let f = c in
+    let p = pricing f.before in
     let s = start p in
-    let so = refused_so (run s) s.args.froms.now s.args.tos.now s.args.row.now rows long (said f _ _ f.refused.ensures c.if1.true) in
+    let so = refused_so (run s) s.args.froms.now s.args.tos.now s.args.row.now rows long (said f.before _ _ f.refused.ensures c.if-refused.true) in
     (answered p ∙ so.0, so.1)
 
-passed : (e : tie.Else1) → let s = start (pricing e.before) in PriceableAny (run s) s.args.froms.now s.args.tos.now
+passed : (e : tie.Else-refused) → let s = start (pricing e.before) in PriceableAny (run s) s.args.froms.now s.args.tos.now
 passed e =
-    let f = e.before in
-    let s = start (pricing f) in
-    passed_so (run s) s.args.froms.now s.args.tos.now s.args.row.now rows long (said f _ _ f.refused.ensures e.if1.false)
+    let f = e in
+    let s = start (pricing f.before) in
+    passed_so (run s) s.args.froms.now s.args.tos.now s.args.row.now rows long (said f.before _ _ f.refused.ensures e.if-refused.false)
 
-is-price : (e : tie.Else1)
-    → let s = start (pricing e.before) in (pricing e.before).price-any.result ≡ priced_any_answer (run s) (list_of s.args.froms.now s.args.tos.now)
+is-price : (e : tie.Else-refused)
+    → let s = start (pricing e.before) in (pricing e.before).price_any-answer.result ≡ priced_any_answer (run s) (list_of s.args.froms.now s.args.tos.now)
 is-price e =
     let p = pricing e.before in
     let s = start p in
@@ -75,29 +75,29 @@ is-price e =
 refuse-requires : tie.Need-refuse-requires
 refuse-requires c κs = search rules
 
-returns-2 : tie.Need-returns-2
+returns-2 : tie.Need-returns-then-row-froms
 returns-2 c =
-    let e = c.before.before in
-    let s = start (pricing e.before) in
-    let so = short_so (run s) s.args.froms.now s.args.tos.now s.args.row.now (passed e) c.before.if2.true in
+    let e = c in
+    let s = start (pricing e.before.before.before) in
+    let so = short_so (run s) s.args.froms.now s.args.tos.now s.args.row.now (passed e.before.before) c.if-row-froms.true in
     (c.refuse.ensures ∙ so.0, so.1)
 
-fill-figures-requires : tie.Need-fill-figures-requires
-fill-figures-requires c κs = let e = c.before.before in (passed e, (ap (λ (a : Answer). a.sum) (is-price e), c.before.if2.false))
+fill-figures-requires : tie.Need-fill_figures-requires
+fill-figures-requires c κs = let e = c in (passed e.before.before, (ap (λ (a : Answer). a.sum) (is-price e.before.before), c.if-row-froms.false))
 
-same_length : tie.Need-same-length
-same_length c = c.before.fill-figures.auto.1.1.1.1.1.1.1.1.1.1.0
+same_length : tie.Need-shape_of-row
+same_length c = c.fill_figures.auto.row
 
-returns-3 : tie.Need-returns-3
+returns-3 : tie.Need-returns
 returns-3 c =
-    let d = c.before.before.before in
-    let e = d.before in
-    let s = start (pricing e.before) in
-    let so = figured_so (run s) s.args.froms.now s.args.tos.now s.args.row.now (passed e) d.if2.false _ c.before.fill-figures.ensures in
-    (is-price e ∙ so.0, so.1)
+    let d = c in
+    let e = d in
+    let s = start (pricing e.before.before.before.before.before) in
+    let so = figured_so (run s) s.args.froms.now s.args.tos.now s.args.row.now (passed e.before.before.before.before) d.if-row-froms.false _ c.fill_figures.ensures in
+    (is-price e.before.before.before.before ∙ so.0, so.1)
 
-pub figures-any-spec : {M : Type 1} → statement M
-figures-any-spec =
+pub figures_any_spec : {M : Type 1} → statement M
+figures_any_spec =
     tie.close
     (tie.spec
     slice-aggregate-price-any

@@ -6,29 +6,29 @@ use borrow.Author.Tests.{lt-ltb, le-ltb}
 use Rattle.sheet_loose.proofs.judge_rows.Statement.{statement}
 use Rattle.sheet_loose.proofs.judge_rows.Tie as tie
 
-refuse-if-requires : tie.Need-refuse-if-requires
+refuse-if-requires : tie.Need-refuse_if-requires
 refuse-if-requires c κs = search rules
 
-refused-parts-requires : tie.Need-refused-parts-requires
+refused-parts-requires : tie.Need-refused_parts-requires
 refused-parts-requires c κs = search rules
 
-returns : tie.Need-returns
-returns c = c.refused-parts.ensures ∙ rw (c.before.refuse-if.ensures, lt-ltb _ _ c.before.before.if1.true)
+returns : tie.Need-returns-then-wanted-parts
+returns c = c.refused_parts.ensures ∙ rw (c.refuse_if.ensures, lt-ltb _ _ c.if-wanted-parts.true)
 
-refuse-if-requires-2 : tie.Need-refuse-if-requires-2
+refuse-if-requires-2 : tie.Need-refuse_if-requires-then-counts-parts
 refuse-if-requires-2 c κs = search rules
 
-refused-parts-requires-2 : tie.Need-refused-parts-requires-2
+refused-parts-requires-2 : tie.Need-refused_parts-requires-then-counts-parts
 refused-parts-requires-2 c κs = search rules
 
-returns-2 : tie.Need-returns-2
-returns-2 c = c.refused-parts2.ensures ∙ rw (c.before.refuse-if2.ensures, le-ltb _ _ c.before.before.before.if1.false, lt-ltb _ _ c.before.before.if2.true)
+returns-2 : tie.Need-returns-then-counts-parts
+returns-2 c = c.refused_parts-then-counts-parts.ensures ∙ rw (c.refuse_if-then-counts-parts.ensures, le-ltb _ _ c.if-wanted-parts.false, lt-ltb _ _ c.if-counts-parts.true)
 
-returns-3 : tie.Need-returns-3
-returns-3 c = rw (le-ltb _ _ c.before.if1.false, le-ltb _ _ c.if2.false)
+returns-3 : tie.Need-returns
+returns-3 c = rw (le-ltb _ _ c.if-wanted-parts.false, le-ltb _ _ c.if-counts-parts.false)
 
-pub judge-rows-spec : {M : Type 1} → statement M
-judge-rows-spec =
+pub judge_rows_spec : {M : Type 1} → statement M
+judge_rows_spec =
     tie.close
     (tie.spec
     refuse-if-requires

@@ -6,79 +6,79 @@ use Rattle.sheet_loose.proofs.Answers.{sheet_long, top_refuses, below_refuses, p
 use Rattle.sheet_loose.proofs.read_parts.Statement.{statement}
 use Rattle.sheet_loose.proofs.read_parts.Tie as tie
 
-refuse-if-requires : tie.Need-refuse-if-requires
+refuse-if-requires : tie.Need-refuse_if-long-requires
 refuse-if-requires c κs = search rules
 
 refused-requires : tie.Need-refused-requires
 refused-requires c κs = search rules
 
-refused-parts-requires : tie.Need-refused-parts-requires
+refused-parts-requires : tie.Need-refused_parts-requires
 refused-parts-requires c κs = search rules
 
-returns : tie.Need-returns
-returns c = sheet_long _ _ _ c.before.before.before.refuse-if.ensures c.before.before.refused.ensures c.before.if1.true _ c.refused-parts.ensures
+returns : tie.Need-returns-then-refused
+returns c = sheet_long _ _ _ c.refuse_if-long.ensures c.refused.ensures c.if-refused.true _ c.refused_parts.ensures
 
-read-top-requires : tie.Need-read-top-requires
+read-top-requires : tie.Need-read_top-requires
 read-top-requires c κs = search rules
 
-enum-known-line : tie.Need-enum-known-line
+enum-known-line : tie.Need-enum_known-line
 enum-known-line c = search rules
 
-refuse-at-requires : tie.Need-refuse-at-requires
+refuse-at-requires : tie.Need-refuse_at-requires
 refuse-at-requires c κs = search rules
 
-refused-parts-requires-2 : tie.Need-refused-parts-requires-2
+refused-parts-requires-2 : tie.Need-refused_parts-requires-in-Bad
 refused-parts-requires-2 c κs = search rules
 
-enum-known-top : tie.Need-enum-known-top
+enum-known-top : tie.Need-enum_known-top
 enum-known-top c = search rules
 
-file-lines-requires : tie.Need-file-lines-requires
-file-lines-requires c κs = (top_read _ _ c.before.before.before.read-top.ensures _ c.before.top.given.1).next.within
+file-lines-requires : tie.Need-file_lines-files-requires
+file-lines-requires c κs = (top_read _ _ c.read_top.ensures _ c.in-Good.is).next.within
 
-read-below-requires : tie.Need-read-below-requires
-read-below-requires c κs = wants_at_lem _ _ _ (top_read _ _ c.before.before.before.before.read-top.ensures _ c.before.before.top.given.1).next c.file-lines.ensures
+read-below-requires : tie.Need-read_below-requires
+read-below-requires c κs = wants_at_lem _ _ _ (top_read _ _ c.read_top.ensures _ c.in-Good.is).next c.file_lines-files.ensures
 
-enum-known-line-2 : tie.Need-enum-known-line-2
+enum-known-line-2 : tie.Need-enum_known-line-in-Bad-read_below
 enum-known-line-2 c = search rules
 
-refuse-at-requires-2 : tie.Need-refuse-at-requires-2
+refuse-at-requires-2 : tie.Need-refuse_at-requires-in-Bad-read_below
 refuse-at-requires-2 c κs = search rules
 
-refused-parts-requires-3 : tie.Need-refused-parts-requires-3
+refused-parts-requires-3 : tie.Need-refused_parts-requires-in-Bad-read_below
 refused-parts-requires-3 c κs = search rules
 
-enum-known-said : tie.Need-enum-known-said
+enum-known-said : tie.Need-enum_known-said
 enum-known-said c = search rules
 
-returns-2 : tie.Need-returns-2
+returns-2 : tie.Need-returns-in-Bad
 returns-2 c =
-    let l = c.before.before.before in
-    let e1 = l.before.before.before in
-    top_refuses _ _ _ e1.before.before.refuse-if.ensures e1.before.refused.ensures e1.if1.false _
-    (top_failed _ _ l.before.before.read-top.ensures _ l.line.given.1) _ c.before.refuse-at.ensures _ c.refused-parts2.ensures
+    let l = c in
+    let e1 = l in
+    top_refuses _ _ _ e1.refuse_if-long.ensures e1.refused.ensures e1.if-refused.false _
+    (top_failed _ _ l.read_top.ensures _ l.in-Bad.is) _ c.refuse_at.ensures _ c.refused_parts-in-Bad.ensures
 
-returns-3 : tie.Need-returns-3
+returns-3 : tie.Need-returns-in-Bad-read_below
 returns-3 c =
-    let l2 = c.before.before.before in
-    let rb = l2.before.before in
-    let t = rb.before.before.before in
-    let e1 = t.before.before.before in
-    below_refuses _ _ _ e1.before.before.refuse-if.ensures e1.before.refused.ensures e1.if1.false _
-    (top_read _ _ t.before.before.read-top.ensures _ t.top.given.1) _ (below_failed _ _ rb.read_below.ensures _ l2.line2.given.1) _
-    c.before.refuse-at2.ensures _ c.refused-parts3.ensures
+    let l2 = c in
+    let rb = l2 in
+    let t = rb in
+    let e1 = t in
+    below_refuses _ _ _ e1.refuse_if-long.ensures e1.refused.ensures e1.if-refused.false _
+    (top_read _ _ t.read_top.ensures _ t.in-Good.is) _ (below_failed _ _ rb.read_below.ensures _ l2.in-Bad-read_below.is) _
+    c.refuse_at-in-Bad-read_below.ensures _ c.refused_parts-in-Bad-read_below.ensures
 
-returns-4 : tie.Need-returns-4
+returns-4 : tie.Need-returns-in-Good-read_below
 returns-4 c =
-    let rb = c.before.before.before in
-    let t = rb.before.before.before in
-    let e1 = t.before.before.before in
-    parts_good _ _ _ e1.before.before.refuse-if.ensures e1.before.refused.ensures e1.if1.false _
-    (top_read _ _ t.before.before.read-top.ensures _ t.top.given.1) _ rb.before.file-lines.ensures _ _ _
-    (below_read _ _ rb.read_below.ensures _ _ _ c.before.said.given.1)
+    let rb = c in
+    let t = rb in
+    let e1 = t in
+    parts_good _ _ _ e1.refuse_if-long.ensures e1.refused.ensures e1.if-refused.false _
+    (top_read _ _ t.read_top.ensures _ t.in-Good.is) _ rb.file_lines-files.ensures _ _ _
+    (below_read _ _ rb.read_below.ensures _ _ _ c.in-Good-read_below.is)
 
-pub read-parts-spec : {M : Type 1} → statement M
-read-parts-spec =
+pub read_parts_spec : {M : Type 1} → statement M
+read_parts_spec =
     tie.close
     (tie.spec
     refuse-if-requires

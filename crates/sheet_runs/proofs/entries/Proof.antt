@@ -8,17 +8,20 @@ use Rattle.sheet_runs.proofs.entries.Statement.{statement}
 use Rattle.sheet_runs.proofs.entries.Tie as tie
 
 -- What was handed in.
-abbrev start : tie.After-within → tie.Start
+abbrev start : tie.After-within-end → tie.Start
 start w = w.before.before
 
-within-requires : tie.Need-within-requires
+within-requires : tie.Need-within-end-requires
 within-requires c κs = search rules
 
-slice-aggregate-result : tie.Need-slice-aggregate-result
-slice-aggregate-result c = let w = c.before in let a = (start w).args in sym (length-take-le _ _ (in_row a.row.now a.n _ w.within.ensures))
+slice-aggregate-result : tie.Need-slice_bounds-result-end
+slice-aggregate-result c = let w = c in let a = (start w).args in sym (length-take-le _ _ (in_row a.row.now a.n _ w.within-end.ensures))
 
 returns : tie.Need-returns
-returns c = let w = c.before in let a = (start w).args in (first_entries a.row.now a.n _ w.within.ensures, refl)
+returns c = let w = c in let a = (start w).args in (first_entries a.row.now a.n _ w.within-end.ensures, refl)
 
-pub entries-spec : {M : Type 1} → statement M
-entries-spec = tie.close (tie.spec within-requires slice-aggregate-result returns)
+pub entries_spec : {M : Type 1} → statement M
+entries_spec = tie.close (tie.spec
+    within-requires
+    slice-aggregate-result
+    returns)

@@ -8,11 +8,14 @@ use Rattle.sheet_writer.proofs.page.bytes_of.Tie as tie
 refused-requires : tie.Need-refused-requires
 refused-requires c κs = search rules
 
-returns : tie.Need-returns
-returns c = rw (sym c.before.refused.ensures ∙ c.if1.true)
+returns : tie.Need-returns-then-refused
+returns c = rw (sym c.refused.ensures ∙ c.if-refused.true)
 
-returns-2 : tie.Need-returns-2
-returns-2 c = rw (sym c.before.refused.ensures ∙ c.if1.false)
+returns-2 : tie.Need-returns-else-refused
+returns-2 c = rw (sym c.refused.ensures ∙ c.if-refused.false)
 
-pub bytes-of-spec : {M : Type 1} → statement M
-bytes-of-spec = tie.close (tie.spec refused-requires returns returns-2)
+pub bytes_of_spec : {M : Type 1} → statement M
+bytes_of_spec = tie.close (tie.spec
+    refused-requires
+    returns
+    returns-2)

@@ -4,11 +4,13 @@ use borrow.Author.Tests.{lt-ltb, le-ltb}
 use Rattle.sheet_writer.proofs.page.fitting.Statement.{statement}
 use Rattle.sheet_writer.proofs.page.fitting.Tie as tie
 
-returns : tie.Need-returns
-returns c = rw (lt-ltb _ _ c.if1.true)
+returns : tie.Need-returns-then-row-bytes
+returns c = rw (lt-ltb _ _ c.if-row-bytes.true)
 
-returns-2 : tie.Need-returns-2
-returns-2 c = rw (le-ltb _ _ c.if1.false)
+returns-2 : tie.Need-returns-else-row-bytes
+returns-2 c = rw (le-ltb _ _ c.if-row-bytes.false)
 
-pub fitting-spec : {M : Type 1} → statement M
-fitting-spec = tie.close (tie.spec returns returns-2)
+pub fitting_spec : {M : Type 1} → statement M
+fitting_spec = tie.close (tie.spec
+    returns
+    returns-2)

@@ -4,14 +4,17 @@ use borrow.Author.Rules.{rules}
 use Rattle.sheet_writer.proofs.page.judge_letters.Statement.{statement}
 use Rattle.sheet_writer.proofs.page.judge_letters.Tie as tie
 
-is-name-requires : tie.Need-is-name-requires
+is-name-requires : tie.Need-is_name-requires
 is-name-requires c κs = search rules
 
-refuse-if-requires : tie.Need-refuse-if-requires
+refuse-if-requires : tie.Need-refuse_if-requires
 refuse-if-requires c κs = search rules
 
 returns : tie.Need-returns
-returns c = rw (← c.before.is_name.ensures) c.refuse-if.ensures
+returns c = rw (← c.is_name.ensures) c.refuse_if.ensures
 
-pub judge-letters-spec : {M : Type 1} → statement M
-judge-letters-spec = tie.close (tie.spec is-name-requires refuse-if-requires returns)
+pub judge_letters_spec : {M : Type 1} → statement M
+judge_letters_spec = tie.close (tie.spec
+    is-name-requires
+    refuse-if-requires
+    returns)

@@ -12,23 +12,23 @@ use Rattle.sheet_writer.proofs.page.judge_name.Tie as tie
 refused-requires : tie.Need-refused-requires
 refused-requires c κs = search rules
 
-returns : tie.Need-returns
-returns c = rw (sym c.before.refused.ensures ∙ c.if1.true)
+returns : tie.Need-returns-then-refused
+returns c = rw (sym c.refused.ensures ∙ c.if-refused.true)
 
-refuse-if-requires : tie.Need-refuse-if-requires
+refuse-if-requires : tie.Need-refuse_if-requires
 refuse-if-requires c κs = search rules
 
-returns-2 : tie.Need-returns-2
-returns-2 c = rw (sym c.before.before.before.refused.ensures ∙ c.before.before.if1.false, c.before.if2.true) (rw c.before.if2.true at c.refuse-if.ensures)
+returns-2 : tie.Need-returns-then-over
+returns-2 c = rw (sym c.refused.ensures ∙ c.if-refused.false, c.if-over.true) (rw c.if-over.true at c.refuse_if.ensures)
 
-judge-letters-requires : tie.Need-judge-letters-requires
+judge-letters-requires : tie.Need-judge_letters-requires
 judge-letters-requires c κs = search rules
 
-returns-3 : tie.Need-returns-3
-returns-3 c = rw (sym c.before.before.before.refused.ensures ∙ c.before.before.if1.false, c.before.if2.false) (last_if {b = not (is_name c.before.before.before.before.before.args.name.now)} BadName refl c.judge-letters.ensures refl)
+returns-3 : tie.Need-returns
+returns-3 c = rw (sym c.refused.ensures ∙ c.if-refused.false, c.if-over.false) (last_if {b = not (is_name c.args.name.now)} BadName refl c.judge_letters.ensures refl)
 
-pub judge-name-spec : {M : Type 1} → statement M
-judge-name-spec =
+pub judge_name_spec : {M : Type 1} → statement M
+judge_name_spec =
     tie.close
     (tie.spec
     refused-requires

@@ -8,50 +8,42 @@ use borrow.Author.Rules.{rules}
 use Rattle.sheet_writer.proofs.plan.put_plan.Statement.{statement}
 use Rattle.sheet_writer.proofs.plan.put_plan.Tie as tie
 
-put-plan-top-requires : tie.Need-put-plan-top-requires
+put-plan-top-requires : tie.Need-put_plan_top-detour_at-requires
 put-plan-top-requires c κs = search rules
 
-slice-aggregate-put-pairs : tie.Need-slice-aggregate-put-pairs
-slice-aggregate-put-pairs c = search rules
-
-put-pairs-requires : tie.Need-put-pairs-requires
+put-pairs-requires : tie.Need-put_pairs-time_at-requires
 put-pairs-requires c κs = search rules
 
-slice-aggregate-put-triples : tie.Need-slice-aggregate-put-triples
-slice-aggregate-put-triples c = search rules
-
-put-triples-requires : tie.Need-put-triples-requires
+put-triples-requires : tie.Need-put_triples-requires
 put-triples-requires c κs = search rules
 
-same_length : tie.Need-same-length
+same_length : tie.Need-shape_of-page
 same_length c =
-    let pt = c.before.before in
-    let pp = pt.before.before.before.before.before in
-    let top = pp.before.before.before.before.before in
-    pt.put-triples.auto.0 ∙ pp.put-pairs.auto.0 ∙ top.put-plan-top.auto.0
+    let pt = c in
+    let pp = pt in
+    let top = pp in
+    pt.put_triples.auto.page ∙ pp.put_pairs-time_at.auto.page ∙ top.put_plan_top-detour_at.auto.page
 
 -- The way back from a place in the code to the one that the name says.
-abbrev at-start : tie.After-put-plan-top → tie.Start
+abbrev at-start : tie.After-put_plan_top-detour_at → tie.Start
 at-start c = c.before.before.before.before.before.before.before.before.before
 
 returns : tie.Need-returns
 unfolding plan_lines
 returns c =
-    let pt = c.before.before in
-    let c7 = pt.before.before.before.before.before in
-    let c12 = c7.before.before.before.before.before in
-    let c21 = at-start c12 in
-    let two = wrote_both c12.put-plan-top.ensures c7.put-pairs.ensures in
-    wrote_within (wrote_both two pt.put-triples.ensures) _ (omega (arith, c21.pre.few, c21.pre.wants))
+    let pt = c in
+    let c7 = pt in
+    let c12 = c7 in
+    let c21 = at-start c12.before.before.before.before.before.before.before.before.before.before.before.before.before.before in
+    let two = wrote_both c12.put_plan_top-detour_at.ensures c7.put_pairs-time_at.ensures in
+    wrote_within (wrote_both two pt.put_triples.ensures) _ (omega (arith, c21.requires.few, c21.requires.wants))
 
-pub put-plan-spec : {M : Type 1} → statement M
-put-plan-spec =
+pub put_plan_spec : {M : Type 1} → statement M
+put_plan_spec =
     tie.close
     (tie.spec
     put-plan-top-requires
-    slice-aggregate-put-pairs
     put-pairs-requires
-    slice-aggregate-put-triples
     put-triples-requires
     same_length
     returns)

@@ -9,58 +9,54 @@ use borrow.Author.Rules.{rules}
 use Rattle.sheet_writer.proofs.refusal.write_refusal.Statement.{statement}
 use Rattle.sheet_writer.proofs.refusal.write_refusal.Tie as tie
 
-number-requires : tie.Need-number-requires
+number-requires : tie.Need-number-number-requires
 number-requires c κs = search rules
 
-slice-aggregate-put-number-line : tie.Need-slice-aggregate-put-number-line
+slice-aggregate-put-number-line : tie.Need-slice_bounds-put_number_line-end
 slice-aggregate-put-number-line c = search rules
 
-slice-aggregate-put-number-line-2 : tie.Need-slice-aggregate-put-number-line-2
-slice-aggregate-put-number-line-2 c = search rules
-
-put-number-line-requires : tie.Need-put-number-line-requires
+put-number-line-requires : tie.Need-put_number_line-place_at-requires
 put-number-line-requires c κs = search rules
 
-slice-aggregate-put-place : tie.Need-slice-aggregate-put-place
+slice-aggregate-put-place : tie.Need-slice_bounds-put_place-end
 slice-aggregate-put-place c = search rules
 
-put-place-requires : tie.Need-put-place-requires
+put-place-requires : tie.Need-put_place-bytes-requires
 put-place-requires c κs = search rules
 
 -- The verdict, from where its number stands on the page.
-abbrev told : tie.After-put-number-line → Verdict
-told k = k.before.before.before.before.before.args.verdict
+abbrev told : tie.After-put_number_line-place_at → Verdict
+told k = k.args.verdict
 
-array-share-prefix-page : tie.Need-array-share-prefix-page
+array-share-prefix-page : tie.Need-slice_bounds-page-end
 array-share-prefix-page c =
-    let k = c.before.before.before.before in
-    let w = wrote_refusal (told k) _ k.before.before.before.number.ensures _ (omega arith) _ _ _ _ k.put-number-line.ensures c.before.put-place.ensures in
+    let k = c in
+    let w = wrote_refusal (told k.before.before.before.before) _ k.number-number.ensures _ (omega arith) _ _ _ _ k.put_number_line-place_at.ensures c.put_place-bytes.ensures in
     omega (arith, w.within)
 
-slice-aggregate-hand-out : tie.Need-slice-aggregate-hand-out
+slice-aggregate-hand-out : tie.Need-slice_bounds-hand_out-end
 slice-aggregate-hand-out c =
-    let k = c.before.before.before.before.before in
-    part_length _ _ _ _ _ (wrote_refusal (told k) _ k.before.before.before.number.ensures _ (omega arith) _ _ _ _ k.put-number-line.ensures c.before.before.put-place.ensures)
+    let k = c in
+    part_length _ _ _ _ _ (wrote_refusal (told k.before.before.before.before.before) _ k.number-number.ensures _ (omega arith) _ _ _ _ k.put_number_line-place_at.ensures c.put_place-bytes.ensures)
 
-hand-out-requires : tie.Need-hand-out-requires
+hand-out-requires : tie.Need-hand_out-requires
 hand-out-requires c κs = search rules
 
-same_length : tie.Need-same-length
-same_length c = c.before.before.hand-out.auto.1.0
+same_length : tie.Need-shape_of-out
+same_length c = c.hand_out.auto.out
 
 returns : tie.Need-returns
 returns c =
-    let p = c.before.before.before.before.before.before in
-    let k = p.before.before.before in
-    page_handed _ _ _ _ _ (wrote_refusal (told k) _ k.before.before.before.number.ensures _ (omega arith) _ _ _ _ k.put-number-line.ensures p.put-place.ensures) _ _ refl _ _ c.before.before.hand-out.ensures
+    let p = c in
+    let k = p in
+    page_handed _ _ _ _ _ (wrote_refusal (told k.before.before.before.before.before.before.before.before.before) _ k.number-number.ensures _ (omega arith) _ _ _ _ k.put_number_line-place_at.ensures p.put_place-bytes.ensures) _ _ refl _ _ c.hand_out.ensures
 
-pub write-refusal-spec : {M : Type 1} → statement M
-write-refusal-spec =
+pub write_refusal_spec : {M : Type 1} → statement M
+write_refusal_spec =
     tie.close
     (tie.spec
     number-requires
     slice-aggregate-put-number-line
-    slice-aggregate-put-number-line-2
     put-number-line-requires
     slice-aggregate-put-place
     put-place-requires

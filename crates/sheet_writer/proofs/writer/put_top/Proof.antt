@@ -8,79 +8,55 @@ use borrow.Author.Rules.{rules}
 use Rattle.sheet_writer.proofs.writer.put_top.Statement.{statement}
 use Rattle.sheet_writer.proofs.writer.put_top.Tie as tie
 
-slice-aggregate-put-line : tie.Need-slice-aggregate-put-line
-slice-aggregate-put-line c = search rules
-
-put-line-requires : tie.Need-put-line-requires
+put-line-requires : tie.Need-put_line-head_at-requires
 put-line-requires c κs = search rules
 
-slice-aggregate-put-number-line : tie.Need-slice-aggregate-put-number-line
-slice-aggregate-put-number-line c = search rules
-
-put-number-line-requires : tie.Need-put-number-line-requires
+put-number-line-requires : tie.Need-put_number_line-turn_at-requires
 put-number-line-requires c κs = search rules
 
-slice-aggregate-put-number-line-2 : tie.Need-slice-aggregate-put-number-line-2
-slice-aggregate-put-number-line-2 c = search rules
-
-put-number-line-requires-2 : tie.Need-put-number-line-requires-2
+put-number-line-requires-2 : tie.Need-put_number_line-rule_at-requires
 put-number-line-requires-2 c κs = search rules
 
-slice-aggregate-put-line-2 : tie.Need-slice-aggregate-put-line-2
-slice-aggregate-put-line-2 c = search rules
-
-slice-aggregate-put-line-3 : tie.Need-slice-aggregate-put-line-3
-slice-aggregate-put-line-3 c = search rules
-
-put-line-requires-2 : tie.Need-put-line-requires-2
+put-line-requires-2 : tie.Need-put_line-files_at-requires
 put-line-requires-2 c κs = search rules
 
-slice-aggregate-put-number-line-3 : tie.Need-slice-aggregate-put-number-line-3
-slice-aggregate-put-number-line-3 c = search rules
-
-put-number-line-requires-3 : tie.Need-put-number-line-requires-3
+put-number-line-requires-3 : tie.Need-put_number_line-requires
 put-number-line-requires-3 c κs = search rules
 
-same_length : tie.Need-same-length
+same_length : tie.Need-shape_of-page
 same_length c =
-    let p3 = c.before.before in
-    let r = p3.before.before.before.before.before in
-    let p2 = r.before.before.before.before.before.before in
-    let p1 = p2.before.before.before.before.before in
-    let p = p1.before.before.before.before.before in
-    p3.put-number-line3.auto.0 ∙ r.put-line2.auto.0 ∙ p2.put-number-line2.auto.0 ∙ p1.put-number-line.auto.0 ∙ p.put-line.auto.0
+    let p3 = c in
+    let r = p3 in
+    let p2 = r in
+    let p1 = p2 in
+    let p = p1 in
+    p3.put_number_line.auto.page ∙ r.put_line-files_at.auto.page ∙ p2.put_number_line-rule_at.auto.page ∙ p1.put_number_line-turn_at.auto.page ∙ p.put_line-head_at.auto.page
 
 returns : tie.Need-returns
 unfolding top_text
 returns c =
-    let c4 = c.before.before.before.before in
-    let c8 = c4.before.before.before.before in
-    let c12 = c8.before.before.before.before in
-    let c16 = c12.before.before.before.before in
-    let c20 = c16.before.before.before.before in
-    let c24 = c20.before.before.before.before in
-    let short = c24.before.before.before.before.requires.0 in
-    let wide = c24.before.before.before.before.requires.1 in
-    let one = c20.before.before.before.put-line.ensures.room (omega arith) in
-    let two = wrote_on one (omega arith) c16.before.before.put-number-line.ensures in
-    let three = wrote_on two (omega arith) c12.before.put-number-line2.ensures in
-    let four = wrote_on three (omega arith) c4.before.before.before.put-line2.ensures in
-    wrote_within (wrote_on four (omega arith) c.before.before.put-number-line3.ensures) _ (omega arith)
+    let c4 = c in
+    let c8 = c4 in
+    let c12 = c8 in
+    let c16 = c12 in
+    let c20 = c16 in
+    let c24 = c20 in
+    let short = c24.requires.0 in
+    let wide = c24.requires.1 in
+    let one = c20.put_line-head_at.ensures.room (omega arith) in
+    let two = wrote_on one (omega arith) c16.put_number_line-turn_at.ensures in
+    let three = wrote_on two (omega arith) c12.put_number_line-rule_at.ensures in
+    let four = wrote_on three (omega arith) c4.put_line-files_at.ensures in
+    wrote_within (wrote_on four (omega arith) c.put_number_line.ensures) _ (omega arith)
 
-pub put-top-spec : {M : Type 1} → statement M
-put-top-spec =
+pub put_top_spec : {M : Type 1} → statement M
+put_top_spec =
     tie.close
     (tie.spec
-    slice-aggregate-put-line
     put-line-requires
-    slice-aggregate-put-number-line
     put-number-line-requires
-    slice-aggregate-put-number-line-2
     put-number-line-requires-2
-    slice-aggregate-put-line-2
-    slice-aggregate-put-line-3
     put-line-requires-2
-    slice-aggregate-put-number-line-3
     put-number-line-requires-3
     same_length
     returns)

@@ -14,11 +14,11 @@ use Rattle.tape_files.proofs.labels.read_label.Statement.{statement}
 use Rattle.tape_files.proofs.labels.read_label.Tie as tie
 
 abbrev invariant-loop : tie.invariant-loop-inner
-invariant-loop text size₀ partition₀ here₀ t11 t12 size partition here =
+invariant-loop text size₀ partition₀ here₀ size partition here =
     ReadTo (field_step number_field (block_size_name ∷ [])) label_name text here₀ size₀ size here × ReadTo (field_step letter_field (partitions_name ∷ data_name ∷ [])) label_name text here₀ partition₀ partition here
 
 abbrev decreases-loop : tie.decreases-loop-inner
-decreases-loop text size₀ partition₀ here₀ t11 t12 size partition here = length (tokens_at text here)
+decreases-loop text size₀ partition₀ here₀ size partition here = length (tokens_at text here)
 
 loop-holds : tie.Need-loop-inner-init invariant-loop decreases-loop
 loop-holds c = (read_none (field_step number_field (block_size_name ∷ [])) _ _ _ _ (omega arith), read_none (field_step letter_field (partitions_name ∷ data_name ∷ [])) _ _ _ _ (omega arith))

@@ -12,11 +12,11 @@ use Rattle.tape_files.proofs.labels.read_partitions.Statement.{statement}
 use Rattle.tape_files.proofs.labels.read_partitions.Tie as tie
 
 abbrev invariant-loop : tie.invariant-loop-next
-invariant-loop text partition₀ here₀ t10 t11 partition here =
+invariant-loop text partition₀ here₀ partition here =
     ReadTo (field_step letter_field (data_name ∷ [])) partitions_name text here₀ partition₀ partition here
 
 abbrev decreases-loop : tie.decreases-loop-next
-decreases-loop text partition₀ here₀ t10 t11 partition here = length (tokens_at text here)
+decreases-loop text partition₀ here₀ partition here = length (tokens_at text here)
 
 loop-holds : tie.Need-loop-next-init invariant-loop decreases-loop
 loop-holds c = read_none (field_step letter_field (data_name ∷ [])) _ _ _ _ c.requires

@@ -9,10 +9,10 @@ place-in-requires : tie.Need-place_in-requires
 place-in-requires c κs = search rules
 
 past-end-requires : tie.Need-past_end-requires
-past-end-requires c κs = rw c.IsPlace-in.ensures (placed_within _ _)
+past-end-requires c κs = rw c.place_in.ensures (placed_within _ _)
 
 returns : tie.Need-returns
-returns c = rw c.IsPlace-in.ensures at c.past_end.ensures
+returns c = rw c.place_in.ensures at c.past_end.ensures
 
 pub leave_spec : {M : Type 1} → statement M
 leave_spec = tie.close (tie.spec

@@ -9,10 +9,10 @@ place-in-requires : tie.Need-place_in-requires
 place-in-requires c κs = search rules
 
 byte-from-requires : tie.Need-byte_from-requires
-byte-from-requires c κs = rw c.IsPlace-in.ensures (placed_within _ _)
+byte-from-requires c κs = rw c.place_in.ensures (placed_within _ _)
 
 returns : tie.Need-returns
-returns c = rw c.IsPlace-in.ensures at c.byte_from.ensures
+returns c = rw c.place_in.ensures at c.byte_from.ensures
 
 pub next_byte_spec : {M : Type 1} → statement M
 next_byte_spec = tie.close (tie.spec

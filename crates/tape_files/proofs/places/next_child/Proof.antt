@@ -9,10 +9,10 @@ place-in-requires : tie.Need-place_in-requires
 place-in-requires c κs = search rules
 
 child-from-requires : tie.Need-child_from-requires
-child-from-requires c κs = rw c.IsPlace-in.ensures (placed_within _ _)
+child-from-requires c κs = rw c.place_in.ensures (placed_within _ _)
 
 returns : tie.Need-returns
-returns c = rw c.IsPlace-in.ensures at c.child_from.ensures
+returns c = rw c.place_in.ensures at c.child_from.ensures
 
 pub next_child_spec : {M : Type 1} → statement M
 next_child_spec = tie.close (tie.spec

@@ -9,10 +9,10 @@ place-in-requires : tie.Need-place_in-requires
 place-in-requires c κs = search rules
 
 named-from-requires : tie.Need-named_from-requires
-named-from-requires c κs = rw c.IsPlace-in.ensures (placed_within _ _)
+named-from-requires c κs = rw c.place_in.ensures (placed_within _ _)
 
 returns : tie.Need-returns
-returns c = rw c.IsPlace-in.ensures at c.named_from.ensures
+returns c = rw c.place_in.ensures at c.named_from.ensures
 
 pub next_named_spec : {M : Type 1} → statement M
 next_named_spec = tie.close (tie.spec

@@ -9,10 +9,10 @@ place-in-requires : tie.Need-place_in-requires
 place-in-requires c κs = search rules
 
 extent-from-requires : tie.Need-extent_from-requires
-extent-from-requires c κs = rw c.IsPlace-in.ensures (placed_within _ _)
+extent-from-requires c κs = rw c.place_in.ensures (placed_within _ _)
 
 returns : tie.Need-returns
-returns c = rw c.IsPlace-in.ensures at c.extent_from.ensures
+returns c = rw c.place_in.ensures at c.extent_from.ensures
 
 pub read_extent_spec : {M : Type 1} → statement M
 read_extent_spec = tie.close (tie.spec
