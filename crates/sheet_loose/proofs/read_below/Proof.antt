@@ -2,6 +2,8 @@
 -- Assumes nothing.
 use borrow.Author.Rules.{rules}
 use native.Mathlib.Omega.{arith}
+use Rattle.text_lines.specs.Lines.{number_behind}
+use Rattle.sheet_reader.specs.Lines.{wants_key}
 use Rattle.sheet_loose.proofs.Passing.{number_unread, number_read}
 use Rattle.sheet_loose.proofs.Order.{wants_bad, text_behind, below_good}
 use Rattle.sheet_loose.proofs.read_below.Statement.{statement}
@@ -26,10 +28,10 @@ add-t11 c = omega (arith, c.requires.few)
 returns : tie.Need-returns-in_default
 returns c =
     let nl = c in
-    wants_bad _ _ _ nl.requires (number_unread _ _ _ _ _ nl.number_line.ensures c.in_default.is)
+    wants_bad _ _ _ nl.requires (number_unread _ (number_behind wants_key) _ _ _ nl.number_line.ensures c.in_default.is)
 
 want-lines-requires : tie.Need-want_lines-wants-requires
-want-lines-requires c κs = (number_read _ _ _ _ _ c.number_line.ensures _ _ c.in-Value.is).0.within
+want-lines-requires c κs = (number_read _ (number_behind wants_key) _ _ _ c.number_line.ensures _ _ c.in-Value.is).0.within
 
 add-t14 : tie.Need-overflow_add-result-then-wants-sheet
 add-t14 c =
@@ -46,14 +48,14 @@ returns-2 c =
     let wl = c in
     let s = wl in
     let nl = s in
-    text_behind _ _ _ nl.requires _ _ (number_read _ _ _ _ _ nl.number_line.ensures _ _ s.in-Value.is) _ wl.want_lines-wants.ensures c.if-wants-sheet.true
+    text_behind _ _ _ nl.requires _ _ (number_read _ (number_behind wants_key) _ _ _ nl.number_line.ensures _ _ s.in-Value.is) _ wl.want_lines-wants.ensures c.if-wants-sheet.true
 
 returns-3 : tie.Need-returns
 returns-3 c =
     let wl = c in
     let s = wl in
     let nl = s in
-    below_good _ _ _ nl.requires _ _ (number_read _ _ _ _ _ nl.number_line.ensures _ _ s.in-Value.is) _ wl.want_lines-wants.ensures c.if-wants-sheet.false
+    below_good _ _ _ nl.requires _ _ (number_read _ (number_behind wants_key) _ _ _ nl.number_line.ensures _ _ s.in-Value.is) _ wl.want_lines-wants.ensures c.if-wants-sheet.false
 
 pub read_below_spec : {M : Type 1} → statement M
 read_below_spec =

@@ -1,6 +1,8 @@
 -- `sheet_loose::read_top` meets its contract: each line in turn, the first that is not as described being the answer.
 -- Assumes nothing.
 use borrow.Author.Rules.{rules}
+use Rattle.text_lines.specs.Lines.{number_behind}
+use Rattle.sheet_reader.specs.Lines.{head_key, files_key, turn_in}
 use Rattle.sheet_loose.proofs.Passing.{name_unread, name_read, number_unread, number_read, rule_unread, rule_read}
 use Rattle.sheet_loose.proofs.Order.{tape_bad, head_bad, turn_bad, rule_after, rule_bad, files_bad, top_good}
 use Rattle.sheet_loose.proofs.read_top.Statement.{statement}
@@ -35,7 +37,7 @@ returns-2 : tie.Need-returns-in_default-number_line
 returns-2 c =
     let nl = c in
     let ha = nl in
-    head_bad _ _ (name_read _ _ ha.tape_line.ensures _ _ ha.in-Name.is) (number_unread _ _ _ _ _ nl.number_line.ensures c.in_default-number_line.is)
+    head_bad _ _ (name_read _ _ ha.tape_line.ensures _ _ ha.in-Name.is) (number_unread _ (number_behind head_key) _ _ _ nl.number_line.ensures c.in_default-number_line.is)
 
 turn-line-requires : tie.Need-turn_line-requires
 turn-line-requires c κs = search rules
@@ -53,7 +55,7 @@ returns-3 c =
     let nl = ta in
     let ha = nl in
     turn_bad _ _ (name_read _ _ ha.tape_line.ensures _ _ ha.in-Name.is) _
-    (number_read _ _ _ _ _ nl.number_line.ensures _ _ ta.in-Value.is).0 (number_unread _ _ _ _ _ tl.turn_line.ensures c.in_default-turn_line.is)
+    (number_read _ (number_behind head_key) _ _ _ nl.number_line.ensures _ _ ta.in-Value.is).0 (number_unread _ turn_in _ _ _ tl.turn_line.ensures c.in_default-turn_line.is)
 
 rule-line-requires : tie.Need-rule_line-requires
 rule-line-requires c κs = search rules
@@ -73,7 +75,7 @@ returns-4 c =
     let nl = ta in
     let ha = nl in
     rule_bad _ _ (name_read _ _ ha.tape_line.ensures _ _ ha.in-Name.is) _
-    (number_read _ _ _ _ _ nl.number_line.ensures _ _ ta.in-Value.is).0 _ _ (number_read _ _ _ _ _ tl.turn_line.ensures _ _ t.in-Value-turn_line.is)
+    (number_read _ (number_behind head_key) _ _ _ nl.number_line.ensures _ _ ta.in-Value.is).0 _ _ (number_read _ turn_in _ _ _ tl.turn_line.ensures _ _ t.in-Value-turn_line.is)
     (rule_unread _ _ _ rl.rule_line.ensures c.in_default-rule_line.is)
 
 number-line-requires-2 : tie.Need-number_line-requires-2
@@ -96,8 +98,8 @@ returns-5 c =
     let nl = ta in
     let ha = nl in
     files_bad _ _ (name_read _ _ ha.tape_line.ensures _ _ ha.in-Name.is) _
-    (number_read _ _ _ _ _ nl.number_line.ensures _ _ ta.in-Value.is).0 _ _ (number_read _ _ _ _ _ tl.turn_line.ensures _ _ t.in-Value-turn_line.is) _ _
-    (rule_read _ _ _ rl.rule_line.ensures _ _ s.in-Value-rule_line.is) (number_unread _ _ _ _ _ nl2.number_line-2.ensures c.in_default-number_line-2.is)
+    (number_read _ (number_behind head_key) _ _ _ nl.number_line.ensures _ _ ta.in-Value.is).0 _ _ (number_read _ turn_in _ _ _ tl.turn_line.ensures _ _ t.in-Value-turn_line.is) _ _
+    (rule_read _ _ _ rl.rule_line.ensures _ _ s.in-Value-rule_line.is) (number_unread _ (number_behind files_key) _ _ _ nl2.number_line-2.ensures c.in_default-number_line-2.is)
 
 sub-t21 : tie.Need-overflow_sub-result
 sub-t21 c =
@@ -107,7 +109,7 @@ sub-t21 c =
     let nl = ta in
     let ha = nl in
     rule_after _ _ (name_read _ _ ha.tape_line.ensures _ _ ha.in-Name.is) _
-    (number_read _ _ _ _ _ nl.number_line.ensures _ _ ta.in-Value.is).0 _ _ (number_read _ _ _ _ _ tl.turn_line.ensures _ _ t.in-Value-turn_line.is)
+    (number_read _ (number_behind head_key) _ _ _ nl.number_line.ensures _ _ ta.in-Value.is).0 _ _ (number_read _ turn_in _ _ _ tl.turn_line.ensures _ _ t.in-Value-turn_line.is)
 
 returns-6 : tie.Need-returns
 returns-6 c =
@@ -120,8 +122,8 @@ returns-6 c =
     let nl = ta in
     let ha = nl in
     top_good _ _ (name_read _ _ ha.tape_line.ensures _ _ ha.in-Name.is) _
-    (number_read _ _ _ _ _ nl.number_line.ensures _ _ ta.in-Value.is).0 _ _ (number_read _ _ _ _ _ tl.turn_line.ensures _ _ t.in-Value-turn_line.is) _ _
-    (rule_read _ _ _ rl.rule_line.ensures _ _ s.in-Value-rule_line.is) _ _ (number_read _ _ _ _ _ nl2.number_line-2.ensures _ _ c.in-Value-number_line.is)
+    (number_read _ (number_behind head_key) _ _ _ nl.number_line.ensures _ _ ta.in-Value.is).0 _ _ (number_read _ turn_in _ _ _ tl.turn_line.ensures _ _ t.in-Value-turn_line.is) _ _
+    (rule_read _ _ _ rl.rule_line.ensures _ _ s.in-Value-rule_line.is) _ _ (number_read _ (number_behind files_key) _ _ _ nl2.number_line-2.ensures _ _ c.in-Value-number_line.is)
 
 pub read_top_spec : {M : Type 1} → statement M
 read_top_spec =

@@ -5,17 +5,21 @@ use Rattle.tape_names.proofs.Names.{said_itself, said_character}
 use Rattle.tape_names.proofs.said_by.Statement.{statement}
 use Rattle.tape_names.proofs.said_by.Tie as tie
 
-character-in-requires : tie.Need-character-in-requires
+character-in-requires : tie.Need-character_in-number-requires
 character-in-requires c κs = search rules
 
-returns : tie.Need-returns
-returns c = said_itself _ _ _ _ _ _ _ _ c.before.character-in.ensures c.if1.true
+returns : tie.Need-returns-then-number-eq0
+returns c = said_itself _ _ _ _ _ _ _ _ c.character_in-number.ensures c.if-number-eq0.true
 
-with-character-requires : tie.Need-with-character-requires
+with-character-requires : tie.Need-with_character-requires
 with-character-requires c κs = search rules
 
-returns-2 : tie.Need-returns-2
-returns-2 c = said_character _ _ _ _ _ _ _ _ c.before.before.character-in.ensures c.before.if1.false _ c.with-character.ensures
+returns-2 : tie.Need-returns
+returns-2 c = said_character _ _ _ _ _ _ _ _ c.character_in-number.ensures c.if-number-eq0.false _ c.with_character.ensures
 
-pub said-by-spec : {M : Type 1} → statement M
-said-by-spec = tie.close (tie.spec character-in-requires returns with-character-requires returns-2)
+pub said_by_spec : {M : Type 1} → statement M
+said_by_spec = tie.close (tie.spec
+    character-in-requires
+    returns
+    with-character-requires
+    returns-2)

@@ -8,10 +8,10 @@ use Rattle.tape_files.proofs.volumes.volume_in.Statement.{statement}
 use Rattle.tape_files.proofs.volumes.volume_in.Tie as tie
 
 abbrev invariant-loop : tie.invariant-loop-next
-invariant-loop text root here₀ t10 here = VolumesLeft root text here
+invariant-loop text root here₀ here = VolumesLeft root text here
 
 abbrev decreases-loop : tie.decreases-loop-next
-decreases-loop text root here₀ t10 here = length (tokens_at text here)
+decreases-loop text root here₀ here = length (tokens_at text here)
 
 loop-holds : tie.Need-loop-next-init invariant-loop decreases-loop
 loop-holds c = volumes_none _ _
