@@ -114,7 +114,7 @@ module _ (r : Run) (good : GoodRun r) where
         starts = rw up refl;
         no_sooner = λ g b t.
             let same = together_first r good.files g f b a t in
-            let left = (extent r.starts r.lengths r.aggregates good.files.table good.files.rows g (in_table g b)).starts-left in
+            let left = (extent r.starts r.lengths r.aggregates good.files.table good.files.rows g (in_table g b)).starts_left in
             omega (arith, left, ap (λ i. get_or r.starts i 0) same);
         last = last.which;
         last_file = last.file;

@@ -100,7 +100,7 @@ record Reported (r : Run) (gs : List Leg) (list : List Detour) (before : Rows) (
 reported_any : (r : Run) (before : Rows) (answer : Answer) (after : Rows) (p : PlannedAny r before answer after) → Reported r (run_legs r p.list) p.list before answer after
 reported_any r before answer after p =
     record {
-      in_rows = anywhere.list-in-rows r p.list before answer after p.says p.rows;
+      in_rows = anywhere.list_in_rows r p.list before answer after p.says p.rows;
       times = ap (λ x. x.times) p.rows;
       legs = ap (λ x. x.legs) p.rows;
       room = ap (λ x. x.room) p.rows;
@@ -110,7 +110,7 @@ reported_01 : (r : Run) (before : Rows) (answer : Answer) (after : Rows) (p : Pl
 unfolding priced_times priced_legs
 reported_01 r before answer after p =
     record {
-      in_rows = planned.list-in-rows r p.list before answer after p.says p.rows;
+      in_rows = planned.list_in_rows r p.list before answer after p.says p.rows;
       times = ap (λ x. x.times) p.rows;
       legs = ap (λ x. x.legs) p.rows;
       room = ap (λ x. x.room) p.rows;
@@ -393,4 +393,4 @@ pub unwanted_plans_any : UnwantedPlansAny
 unwanted_plans_any old more less before answer answer' after after' out order p q =
     let same = verdict_any old more less out order before in
     plans_same old more less out order before answer answer' after after' (plan_any_verdict more before) (plan_any_verdict less before) same p.refused q.refused
-    (λ e. planned_any old more less out order before answer answer' after after' (anywhere.run-passed less before e) (p.planned (ap refuses same ∙ e)) (q.planned e))
+    (λ e. planned_any old more less out order before answer answer' after after' (anywhere.run_passed less before e) (p.planned (ap refuses same ∙ e)) (q.planned e))

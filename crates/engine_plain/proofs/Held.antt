@@ -110,7 +110,7 @@ module _ (r : Run) (j : Joined) (after : JoinRows) (j-is : j ≡ join_answer r (
 
   module _ (passes : refuses (first_of (run_checks r)) ≡ false) where
     pub join_stops : j.stops ≡ length (stops_of r)
-    join_stops = held.join-stops r 8 (few_stops r (run_few r passes)) j after j-is after_is (run_passed r passes)
+    join_stops = held.join_stops r 8 (few_stops r (run_few r passes)) j after j-is after_is (run_passed r passes)
 
     pub join_front : Front j.stops after (stops_of r)
     join_front = held.join_front r 8 (few_stops r (run_few r passes)) j after j-is after_is (run_passed r passes)

@@ -178,7 +178,7 @@ module _ (starts lengths numbers counts : List ℕ) (turn reads : ℕ) where
 
   module _ (xs ys : List ℕ) (b left : ℕ) (l : TableLoop xs ys b left) where
     more_left : b + 1 < length numbers → left + get_or counts (b + 1) 0 ≡ reads_in counts (b + 2)
-    more_left h = let e : b + 1 + 1 ≡ b + 2 = omega arith in omega (arith, l.reads-left, reads_more counts (b + 1), ap (reads_in counts) e)
+    more_left h = let e : b + 1 + 1 ≡ b + 2 = omega arith in omega (arith, l.reads_left, reads_more counts (b + 1), ap (reads_in counts) e)
 
     pub left_within : b + 1 < length numbers → left + get_or counts (b + 1) 0 ≤ reads
     left_within h = omega (arith, more_left h, reads_up_to_lem starts lengths numbers counts turn reads l.judged (b + 2) (omega arith))

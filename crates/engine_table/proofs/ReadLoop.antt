@@ -115,14 +115,14 @@ module _ (starts lengths numbers counts : List ℕ) (turn reads : ℕ) where
           span = next_span h;
           stacked = r.stacked;
           entries = rw (skipped h (sym e ∙ z)) at r.entries;
-          same_froms = r.same-froms;
-          same_tos = r.same-tos;
-          many_froms = r.many-froms;
-          many_tos = r.many-tos;
-          fits_froms = r.fits-froms;
-          fits_tos = r.fits-tos;
-          later_froms = r.later-froms;
-          later_tos = r.later-tos;
+          same_froms = r.same_froms;
+          same_tos = r.same_tos;
+          many_froms = r.many_froms;
+          many_tos = r.many_tos;
+          fits_froms = r.fits_froms;
+          fits_tos = r.fits_tos;
+          later_froms = r.later_froms;
+          later_tos = r.later_tos;
           rows = r.rows;
         }
 
@@ -172,14 +172,14 @@ module _ (starts lengths numbers counts : List ℕ) (turn reads : ℕ) where
               rw (add-one depth, owed_pushed c l)
               (sym (join_pushed (list_of (take n froms) (take n tos)) (list_at stops turn c (b - 1) (s + get_or counts b 0)) (list_at stops turn a (c - 1) s) (owed stops turn edges ends skips depth a) (record { from = file_at stops c; to = file_at stops b }))
               ∙ (rw (pushed h c e z) at r.entries));
-          same_froms = r.same-froms;
-          same_tos = r.same-tos;
-          many_froms = r.many-froms;
-          many_tos = r.many-tos;
-          fits_froms = r.fits-froms;
-          fits_tos = r.fits-tos;
-          later_froms = r.later-froms;
-          later_tos = r.later-tos;
+          same_froms = r.same_froms;
+          same_tos = r.same_tos;
+          many_froms = r.many_froms;
+          many_tos = r.many_tos;
+          fits_froms = r.fits_froms;
+          fits_tos = r.fits_tos;
+          later_froms = r.later_froms;
+          later_tos = r.later_tos;
           rows = (length-set edges depth a ∙ r.rows.0, length-set ends depth b ∙ r.rows.1, length-set skips depth s ∙ r.rows.2);
         }
 
@@ -189,8 +189,8 @@ module _ (starts lengths numbers counts : List ℕ) (turn reads : ℕ) where
 
     written : length (list_of (take n froms) (take n tos)) ≡ n
     written =
-        length_list (take n froms) (take n tos) (length-take-le n froms r.fits-froms ∙ sym (length-take-le n tos r.fits-tos))
-        ∙ length-take-le n froms r.fits-froms
+        length_list (take n froms) (take n tos) (length-take-le n froms r.fits_froms ∙ sym (length-take-le n tos r.fits_tos))
+        ∙ length-take-le n froms r.fits_froms
 
     module _ (h : b ≤ a) (some : depth ≡ 0 → ⊥) where
       pub frame : TopFrame counts (length numbers) reads edges ends skips (depth - 1) a
@@ -214,10 +214,10 @@ module _ (starts lengths numbers counts : List ℕ) (turn reads : ℕ) where
           )
 
       pub from_room : n < length froms
-      from_room = omega (arith, entry_room, r.many-froms)
+      from_room = omega (arith, entry_room, r.many_froms)
 
       pub to_room : n < length tos
-      to_room = omega (arith, entry_room, r.many-tos)
+      to_room = omega (arith, entry_room, r.many_tos)
 
       pub read_pop : ReadLoop froms₀ tos₀ (set froms n (get_or numbers a 0)) (set tos n (get_or numbers (get_or ends (depth - 1) 0) 0)) edges ends skips (depth - 1) (n + 1) (get_or edges (depth - 1) 0) (a - 1) (get_or skips (depth - 1) 0)
       read_pop =
@@ -234,14 +234,14 @@ module _ (starts lengths numbers counts : List ℕ) (turn reads : ℕ) where
                 (list_set froms tos n (get_or numbers a 0) (get_or numbers (get_or ends (depth - 1) 0) 0) from_room to_room, ← file_at_lem starts lengths numbers counts turn reads f.judged a r.left_in, ← file_at_lem starts lengths numbers counts turn reads f.judged (get_or ends (depth - 1) 0) t.end)
                 (sym (join_popped (list_of (take n froms) (take n tos)) (list_at stops turn (get_or edges (depth - 1) 0) (a - 1) (get_or skips (depth - 1) 0) ++ owed stops turn edges ends skips (depth - 1) (get_or edges (depth - 1) 0)) (record { from = file_at stops a; to = file_at stops (get_or ends (depth - 1) 0) }))
                 ∙ popped);
-            same_froms = length-set froms n (get_or numbers a 0) ∙ r.same-froms;
-            same_tos = length-set tos n (get_or numbers (get_or ends (depth - 1) 0) 0) ∙ r.same-tos;
-            many_froms = omega (arith, r.many-froms, length-set froms n (get_or numbers a 0));
-            many_tos = omega (arith, r.many-tos, length-set tos n (get_or numbers (get_or ends (depth - 1) 0) 0));
+            same_froms = length-set froms n (get_or numbers a 0) ∙ r.same_froms;
+            same_tos = length-set tos n (get_or numbers (get_or ends (depth - 1) 0) 0) ∙ r.same_tos;
+            many_froms = omega (arith, r.many_froms, length-set froms n (get_or numbers a 0));
+            many_tos = omega (arith, r.many_tos, length-set tos n (get_or numbers (get_or ends (depth - 1) 0) 0));
             fits_froms = omega (arith, from_room, length-set froms n (get_or numbers a 0));
             fits_tos = omega (arith, to_room, length-set tos n (get_or numbers (get_or ends (depth - 1) 0) 0));
-            later_froms = later_set froms froms₀ n (get_or numbers a 0) r.later-froms;
-            later_tos = later_set tos tos₀ n (get_or numbers (get_or ends (depth - 1) 0) 0) r.later-tos;
+            later_froms = later_set froms froms₀ n (get_or numbers a 0) r.later_froms;
+            later_tos = later_set tos tos₀ n (get_or numbers (get_or ends (depth - 1) 0) 0) r.later_tos;
             rows = r.rows;
           }
 
@@ -249,9 +249,9 @@ module _ (starts lengths numbers counts : List ℕ) (turn reads : ℕ) where
     pub read_ends : b ≤ a → depth ≡ 0 → ListWritten (list_at (lone_stops starts lengths numbers counts) turn 0 (length numbers - 1) 0) n froms₀ tos₀ froms tos
     read_ends h e =
         record {
-          fits_from = r.fits-froms;
-          fits_to = r.fits-tos;
+          fits_from = r.fits_froms;
+          fits_to = r.fits_tos;
           entries = sym (append-nil (list_of (take n froms) (take n tos))) ∙ (rw (owed_none stops turn edges ends skips depth a e) at (done h));
-          later_from = r.later-froms;
-          later_to = r.later-tos;
+          later_from = r.later_froms;
+          later_to = r.later_tos;
         }

@@ -6,32 +6,32 @@ use borrow.Author.Rules.{rules}
 use Rattle.answer_rewrite.proofs.byte_at.Statement.{statement}
 use Rattle.answer_rewrite.proofs.byte_at.Tie as tie
 
-shared-slice-read-result : tie.Need-shared-slice-read-result
-shared-slice-read-result c = given_within c.before.before.before.args.sheet.now c.before.before.before.args.price.at c.before.before.before.requires.0 c.before.before.before.args.i c.before.before.before.args.price.empty (not-true _ c.before.if1.true) c.before.before.before.requires.1
+shared-slice-read-result : tie.Need-bounds-sheet-i
+shared-slice-read-result c = given_within c.args.sheet.now c.args.price.at c.requires.0 c.args.i c.args.price.empty (not-true _ c.if-not-price.true) c.requires.1
 
-returns : tie.Need-returns
-returns c = given_byte c.before.before.before.args.sheet.now c.before.before.before.args.price.at c.before.before.before.requires.0 c.before.before.before.args.i c.before.before.before.args.price.empty (not-true _ c.before.if1.true)
+returns : tie.Need-returns-then-not-price
+returns c = given_byte c.args.sheet.now c.args.price.at c.requires.0 c.args.i c.args.price.empty (not-true _ c.if-not-price.true)
 
-shared-slice-read-result-2 : tie.Need-shared-slice-read-result-2
+shared-slice-read-result-2 : tie.Need-bounds-sheet-i-then-i-price
 shared-slice-read-result-2 c = search rules
 
-returns-2 : tie.Need-returns-2
-returns-2 c = byte_before c.before.before.before.before.before.args.sheet.now c.before.before.before.before.before.args.price.at c.before.before.before.before.before.requires.0 c.before.before.before.before.before.args.i c.before.before.before.before.before.args.price.empty (not-false _ c.before.before.before.if1.false) c.before.if2.true
+returns-2 : tie.Need-returns-then-i-price
+returns-2 c = byte_before c.args.sheet.now c.args.price.at c.requires.0 c.args.i c.args.price.empty (not-false _ c.if-not-price.false) c.if-i-price.true
 
-returns-3 : tie.Need-returns-3
-returns-3 c = byte_zero c.before.before.before.before.before.before.args.sheet.now c.before.before.before.before.before.before.args.price.at c.before.before.before.before.before.before.requires.0 c.before.before.before.before.before.before.args.i c.before.before.before.before.before.before.args.price.empty (not-false _ c.before.before.before.before.if1.false) c.if3.true
+returns-3 : tie.Need-returns-then-i-price-2
+returns-3 c = byte_zero c.args.sheet.now c.args.price.at c.requires.0 c.args.i c.args.price.empty (not-false _ c.if-not-price.false) c.if-i-price-2.true
 
-sub-result : tie.Need-overflow-sub-result
+sub-result : tie.Need-overflow_sub-result
 sub-result c = search rules
 
-shared-slice-read-result-3 : tie.Need-shared-slice-read-result-3
-shared-slice-read-result-3 c = behind_within c.before.before.before.before.before.before.before.args.sheet.now c.before.before.before.before.before.before.before.args.price.at c.before.before.before.before.before.before.before.requires.0 c.before.before.before.before.before.before.before.args.i c.before.before.before.before.before.before.before.args.price.empty (not-false _ c.before.before.before.before.before.if1.false) (past _ _ c.before.before.before.if2.false c.before.if3.false) c.before.before.before.before.before.before.before.requires.1
+shared-slice-read-result-3 : tie.Need-bounds-sheet-i-2
+shared-slice-read-result-3 c = behind_within c.args.sheet.now c.args.price.at c.requires.0 c.args.i c.args.price.empty (not-false _ c.if-not-price.false) (past _ _ c.if-i-price.false c.if-i-price-2.false) c.requires.1
 
-returns-4 : tie.Need-returns-4
-returns-4 c = byte_behind c.before.before.before.before.before.before.before.args.sheet.now c.before.before.before.before.before.before.before.args.price.at c.before.before.before.before.before.before.before.requires.0 c.before.before.before.before.before.before.before.args.i c.before.before.before.before.before.before.before.args.price.empty (not-false _ c.before.before.before.before.before.if1.false) (past _ _ c.before.before.before.if2.false c.before.if3.false)
+returns-4 : tie.Need-returns
+returns-4 c = byte_behind c.args.sheet.now c.args.price.at c.requires.0 c.args.i c.args.price.empty (not-false _ c.if-not-price.false) (past _ _ c.if-i-price.false c.if-i-price-2.false)
 
-pub byte-at-spec : {M : Type 1} → statement M
-byte-at-spec =
+pub byte_at_spec : {M : Type 1} → statement M
+byte_at_spec =
     tie.close
     (tie.spec
     shared-slice-read-result

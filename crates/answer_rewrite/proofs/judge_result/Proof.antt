@@ -8,21 +8,26 @@ use borrow.Author.Rules.{rules}
 use Rattle.answer_rewrite.proofs.judge_result.Statement.{statement}
 use Rattle.answer_rewrite.proofs.judge_result.Tie as tie
 
-refuse-if-requires : tie.Need-refuse-if-requires
+refuse-if-requires : tie.Need-refuse_if-long-requires
 refuse-if-requires c κs = search rules
 
 refused-requires : tie.Need-refused-requires
 refused-requires c κs = search rules
 
-returns : tie.Need-returns
-returns c = rw (test_says c.before.before.refuse-if.ensures c.before.refused.ensures c.if1.true) c.before.before.refuse-if.ensures
+returns : tie.Need-returns-then-refused
+returns c = rw (test_says c.refuse_if-long.ensures c.refused.ensures c.if-refused.true) c.refuse_if-long.ensures
 
-refuse-if-requires-2 : tie.Need-refuse-if-requires-2
+refuse-if-requires-2 : tie.Need-refuse_if-requires
 refuse-if-requires-2 c κs = search rules
 
-returns-2 : tie.Need-returns-2
-returns-2 c = rw (test_says c.before.before.before.refuse-if.ensures c.before.before.refused.ensures c.before.if1.false) (last_if {x = ltb c.before.before.before.before.args.row c.before.before.before.before.args.bytes} ShortRow refl c.refuse-if2.ensures refl)
+returns-2 : tie.Need-returns
+returns-2 c = rw (test_says c.refuse_if-long.ensures c.refused.ensures c.if-refused.false) (last_if {x = ltb c.args.row c.args.bytes} ShortRow refl c.refuse_if.ensures refl)
 
-pub judge-result-spec : {M : Type 1} → statement M
-judge-result-spec =
-    tie.close (tie.spec refuse-if-requires refused-requires returns refuse-if-requires-2 returns-2)
+pub judge_result_spec : {M : Type 1} → statement M
+judge_result_spec =
+    tie.close (tie.spec
+    refuse-if-requires
+    refused-requires
+    returns
+    refuse-if-requires-2
+    returns-2)

@@ -7,7 +7,7 @@ use borrow.Author.Rules.{rules}
 use Rattle.answer_rewrite.proofs.rewrite.Statement.{statement}
 use Rattle.answer_rewrite.proofs.rewrite.Tie as tie
 
-judge-requires : tie.Need-judge-requires
+judge-requires : tie.Need-judge-read-requires
 judge-requires c κs = search rules
 
 refused-requires : tie.Need-refused-requires
@@ -20,57 +20,57 @@ unwritten-requires c κs = search rules
 abbrev at-start : tie.After-refused → tie.Start
 at-start c = c.before.before.before.before
 
-returns : tie.Need-returns
+returns : tie.Need-returns-then-refused
 returns c =
-    unread _ (at-start c.before.before).args.out.now _ c.before.before.before.judge.ensures _ c.before.before.refused.ensures c.before.if1.true _
+    unread _ (at-start c.before.before).args.out.now _ c.judge-read.ensures _ c.refused.ensures c.if-refused.true _
     c.unwritten.ensures
 
-find-price-requires : tie.Need-find-price-requires
-find-price-requires c κs = readable _ (at-start c.before).args.out.now _ c.before.before.judge.ensures _ c.before.refused.ensures c.if1.false
+find-price-requires : tie.Need-find_price-price-requires
+find-price-requires c κs = readable _ (at-start c.before).args.out.now _ c.judge-read.ensures _ c.refused.ensures c.if-refused.false
 
-judge-result-requires : tie.Need-judge-result-requires
+judge-result-requires : tie.Need-judge_result-verdict-requires
 judge-result-requires c κs = search rules
 
 refused-requires-2 : tie.Need-refused-requires-2
 refused-requires-2 c κs = search rules
 
-unwritten-requires-2 : tie.Need-unwritten-requires-2
+unwritten-requires-2 : tie.Need-unwritten-requires-then-refused-2
 unwritten-requires-2 c κs = search rules
 
-returns-2 : tie.Need-returns-2
+returns-2 : tie.Need-returns-then-refused-2
 returns-2 c =
-    let jr = c.before.before.before in
-    let r = jr.before.before.before in
-    refused_result _ (at-start r).args.out.now _ r.before.judge.ensures _ r.refused.ensures jr.before.before.if1.false _
-    jr.before.find-price.ensures.long _ jr.judge-result.ensures _ c.before.before.refused2.ensures c.before.if2.true _ c.unwritten2.ensures
+    let jr = c in
+    let r = jr in
+    refused_result _ (at-start r.before.before.before.before.before.before).args.out.now _ r.judge-read.ensures _ r.refused.ensures jr.if-refused.false _
+    jr.find_price-price.ensures.long _ jr.judge_result-verdict.ensures _ c.refused-2.ensures c.if-refused-2.true _ c.unwritten-then-refused-2.ensures
 
 fill-requires : tie.Need-fill-requires
 fill-requires c κs =
-    let jr = c.before.before.before in
-    let r = jr.before.before.before in
-    let found = jr.before.find-price.ensures in (
+    let jr = c in
+    let r = jr in
+    let found = jr.find_price-price.ensures in (
       found.within,
       (
         found.long ∙ ap length (sym found.result),
-        result_fits _ (at-start r).args.out.now _ r.before.judge.ensures _ r.refused.ensures jr.before.before.if1.false _ jr.before.find-price.ensures.long
-            _ jr.judge-result.ensures _ c.before.before.refused2.ensures c.before.if2.false,
+        result_fits _ (at-start r.before.before.before.before.before.before).args.out.now _ r.judge-read.ensures _ r.refused.ensures jr.if-refused.false _ jr.find_price-price.ensures.long
+            _ jr.judge_result-verdict.ensures _ c.refused-2.ensures c.if-refused-2.false,
       ),
     )
 
-same_length : tie.Need-same-length
-same_length c = c.before.before.fill.auto.1.1.0
+same_length : tie.Need-shape_of-out
+same_length c = c.fill.auto.out
 
-returns-3 : tie.Need-returns-3
+returns-3 : tie.Need-returns
 returns-3 c =
-    let f = c.before.before in
-    let r2 = f.before.before.before in
-    let fp = r2.before.before in
-    rewritten_so _ (at-start fp.before.before).args.out.now _ fp.before.before.before.judge.ensures _ fp.before.before.refused.ensures
-    fp.before.if1.false _ fp.find-price.ensures.long _ r2.before.judge-result.ensures _ r2.refused2.ensures f.before.before.if2.false _ _
-    fp.find-price.ensures.result f.fill.ensures
+    let f = c in
+    let r2 = f in
+    let fp = r2 in
+    rewritten_so _ (at-start fp.before.before.before.before.before.before.before.before.before).args.out.now _ fp.judge-read.ensures _ fp.refused.ensures
+    fp.if-refused.false _ fp.find_price-price.ensures.long _ r2.judge_result-verdict.ensures _ r2.refused-2.ensures f.if-refused-2.false _ _
+    fp.find_price-price.ensures.result f.fill.ensures
 
-pub rewrite-spec : {M : Type 1} → statement M
-rewrite-spec =
+pub rewrite_spec : {M : Type 1} → statement M
+rewrite_spec =
     tie.close
     (tie.spec
     judge-requires

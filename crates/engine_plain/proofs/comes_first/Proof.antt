@@ -6,14 +6,17 @@ use borrow.Author.Rules.{rules}
 use Rattle.engine_plain.proofs.comes_first.Statement.{statement}
 use Rattle.engine_plain.proofs.comes_first.Tie as tie
 
-number-requires : tie.Need-number-requires
+number-requires : tie.Need-number-n-requires
 number-requires c κs = search rules
 
-returns : tie.Need-returns
-returns c = rw (← c.before.number.ensures, c.if1.true)
+returns : tie.Need-returns-then-n-eq0
+returns c = rw (← c.number-n.ensures, c.if-n-eq0.true)
 
-returns-2 : tie.Need-returns-2
-returns-2 c = rw (← c.before.number.ensures, ne_eqb _ _ c.if1.false)
+returns-2 : tie.Need-returns
+returns-2 c = rw (← c.number-n.ensures, ne_eqb _ _ c.if-n-eq0.false)
 
-pub comes-first-spec : {M : Type 1} → statement M
-comes-first-spec = tie.close (tie.spec number-requires returns returns-2)
+pub comes_first_spec : {M : Type 1} → statement M
+comes_first_spec = tie.close (tie.spec
+    number-requires
+    returns
+    returns-2)

@@ -6,17 +6,21 @@ use borrow.Author.Rules.{rules}
 use Rattle.engine_plain.proofs.with_24.Statement.{statement}
 use Rattle.engine_plain.proofs.with_24.Tie as tie
 
-comes-first-requires : tie.Need-comes-first-requires
+comes-first-requires : tie.Need-comes_first-requires
 comes-first-requires c κs = search rules
 
-returns : tie.Need-returns
-returns c = rw (sym c.before.comes-first.ensures ∙ c.if1.true)
+returns : tie.Need-returns-then-comes_first
+returns c = rw (sym c.comes_first.ensures ∙ c.if-comes_first.true)
 
-returns-2 : tie.Need-returns-2
-returns-2 c = rw (sym c.before.before.comes-first.ensures ∙ c.before.if1.false, lt-ltb _ _ c.if2.true)
+returns-2 : tie.Need-returns-then-wants-gt-MOST_PLAIN_WANTS
+returns-2 c = rw (sym c.comes_first.ensures ∙ c.if-comes_first.false, lt-ltb _ _ c.if-wants-gt-MOST_PLAIN_WANTS.true)
 
-returns-3 : tie.Need-returns-3
-returns-3 c = rw (sym c.before.before.comes-first.ensures ∙ c.before.if1.false, le-ltb _ _ c.if2.false)
+returns-3 : tie.Need-returns
+returns-3 c = rw (sym c.comes_first.ensures ∙ c.if-comes_first.false, le-ltb _ _ c.if-wants-gt-MOST_PLAIN_WANTS.false)
 
-pub with-24-spec : {M : Type 1} → statement M
-with-24-spec = tie.close (tie.spec comes-first-requires returns returns-2 returns-3)
+pub with_24_spec : {M : Type 1} → statement M
+with_24_spec = tie.close (tie.spec
+    comes-first-requires
+    returns
+    returns-2
+    returns-3)

@@ -15,63 +15,63 @@ use Rattle.sheet_figures.proofs.write_figures_any.Statement.{statement}
 use Rattle.sheet_figures.proofs.write_figures_any.Tie as tie
 
 -- What was handed in.
-abbrev begun : tie.After-judge-any → tie.Start
+abbrev begun : tie.After-judge_any-run → tie.Start
 begun c = c.before.before.before.before.before.before.before.before.before.before
 
 abbrev run : tie.Start → Run
 run s = let a = s.args in run_of a.starts.now a.lengths.now a.aggregates.now a.numbers.now a.counts.now a.head a.turn
 
-judge-any-requires : tie.Need-judge-any-requires
+judge-any-requires : tie.Need-judge_any-run-requires
 judge-any-requires c κs = search rules
 
-judge-name-requires : tie.Need-judge-name-requires
+judge-name-requires : tie.Need-judge_name-named-requires
 judge-name-requires c κs = search rules
 
 refused-requires : tie.Need-refused-requires
 refused-requires c κs = search rules
 
-answer-to-requires : tie.Need-answer-to-requires
+answer-to-requires : tie.Need-answer_to-requires
 answer-to-requires c κs = search rules
 
-returns : tie.Need-returns
+returns : tie.Need-returns-then-refused
 returns c =
-    let asked = c.before.before in
-    let name = asked.before in
-    let s = begun name.before in
+    let asked = c in
+    let name = asked in
+    let s = begun name.before.before.before.before in
     refused_handed _ _ _ _ _ _
-    (figures_refused s.args.name.now (run s) s.args.froms.now s.args.tos.now s.args.out.now _ _ name.before.judge-any.ensures name.judge-name.ensures _
-    asked.refused.ensures c.before.if1.true)
-    (sym asked.refused.ensures ∙ c.before.if1.true) c.answer-to.ensures
+    (figures_refused s.args.name.now (run s) s.args.froms.now s.args.tos.now s.args.out.now _ _ name.judge_any-run.ensures name.judge_name-named.ensures _
+    asked.refused.ensures c.if-refused.true)
+    (sym asked.refused.ensures ∙ c.if-refused.true) c.answer_to.ensures
 
-slice-aggregate-figures-any : tie.Need-slice-aggregate-figures-any
+slice-aggregate-figures-any : tie.Need-slice_bounds-figures_any-end
 slice-aggregate-figures-any c = search rules
 
-figures-any-requires : tie.Need-figures-any-requires
+figures-any-requires : tie.Need-figures_any-answer-requires
 figures-any-requires c κs = search rules
 
 refused-requires-2 : tie.Need-refused-requires-2
 refused-requires-2 c κs = search rules
 
-answer-to-requires-2 : tie.Need-answer-to-requires-2
+answer-to-requires-2 : tie.Need-answer_to-requires-then-refused-2
 answer-to-requires-2 c κs = search rules
 
-returns-2 : tie.Need-returns-2
+returns-2 : tie.Need-returns-then-refused-2
 returns-2 c =
-    let f = c.before.before.before.before in
-    let e = f.before.before in
-    let name = e.before.before in
-    let s = begun name.before in
+    let f = c in
+    let e = f in
+    let name = e in
+    let s = begun name.before.before.before.before.before.before.before.before.before in
     refused_handed _ _ _ _ _ _
-    (figures_list_refused s.args.name.now (run s) s.args.froms.now s.args.tos.now s.args.out.now _ _ name.before.judge-any.ensures name.judge-name.ensures _
-    e.before.refused.ensures e.if1.false (replicate 64 (pos 0)) (omega arith) f.figures-any.result f.figures-any.ensures.0 _ c.before.before.refused2.ensures c.before.if2.true)
-    (sym c.before.before.refused2.ensures ∙ c.before.if2.true) c.answer-to2.ensures
+    (figures_list_refused s.args.name.now (run s) s.args.froms.now s.args.tos.now s.args.out.now _ _ name.judge_any-run.ensures name.judge_name-named.ensures _
+    e.refused.ensures e.if-refused.false (replicate 64 (pos 0)) (omega arith) f.figures_any-answer.result f.figures_any-answer.ensures.0 _ c.refused-2.ensures c.if-refused-2.true)
+    (sym c.refused-2.ensures ∙ c.if-refused-2.true) c.answer_to-then-refused-2.ensures
 
 -- Where the list is accepted: the figures that were left in the row.
-module _ (e : tie.Else2) where
-  abbrev told : tie.After-figures-any
+module _ (e : tie.Else-refused-2) where
+  abbrev told : tie.After-figures_any-answer
   told = e.before.before.before
 
-  abbrev passed : tie.Else1
+  abbrev passed : tie.Else-refused
   passed = told.before.before
 
   abbrev start : tie.Start
@@ -80,62 +80,62 @@ module _ (e : tie.Else2) where
   few : length start.args.froms.now ≤ 64
   few =
       let name = passed.before.before in
-      few_figures start.args.name.now (run start) start.args.froms.now start.args.tos.now start.args.out.now _ _ name.before.judge-any.ensures name.judge-name.ensures _
-      passed.before.refused.ensures passed.if1.left (replicate 64 (pos 0)) (omega arith) told.figures-any.result told.figures-any.ensures.0 _ e.before.refused2.ensures e.if2.left
+      few_figures start.args.name.now (run start) start.args.froms.now start.args.tos.now start.args.out.now _ _ name.judge_any-run.ensures name.judge_name-named.ensures _
+      passed.before.refused.ensures passed.if1.left (replicate 64 (pos 0)) (omega arith) told.figures_any.result told.figures_any.ensures.0 _ e.refused-2.ensures e.if-refused-2.false
 
   last : figure_any_sheet_verdict start.args.name.now (run start) start.args.froms.now start.args.tos.now start.args.out.now
       ≡ row_verdict (figure_any_text start.args.name.now (run start) start.args.froms.now start.args.tos.now) start.args.out.now
   last =
       let name = passed.before.before in
-      figures_last start.args.name.now (run start) start.args.froms.now start.args.tos.now start.args.out.now _ _ name.before.judge-any.ensures name.judge-name.ensures _
-      passed.before.refused.ensures passed.if1.left (replicate 64 (pos 0)) (omega arith) told.figures-any.result told.figures-any.ensures.0 _ e.before.refused2.ensures e.if2.left
+      figures_last start.args.name.now (run start) start.args.froms.now start.args.tos.now start.args.out.now _ _ name.judge_any-run.ensures name.judge_name-named.ensures _
+      passed.before.refused.ensures passed.if1.left (replicate 64 (pos 0)) (omega arith) told.figures_any.result told.figures_any.ensures.0 _ e.refused-2.ensures e.if-refused-2.false
 
-slice-aggregate-put-figure-sheet : tie.Need-slice-aggregate-put-figure-sheet
+slice-aggregate-put-figure-sheet : tie.Need-slice_bounds-put_figure_sheet-end
 slice-aggregate-put-figure-sheet c = search rules
 
-array-share-prefix-row : tie.Need-array-share-prefix-row
+array-share-prefix-row : tie.Need-slice_bounds-row-end
 array-share-prefix-row c = omega (arith, few c.before)
 
-slice-aggregate-put-figure-sheet-2 : tie.Need-slice-aggregate-put-figure-sheet-2
+slice-aggregate-put-figure-sheet-2 : tie.Need-slice_bounds-put_figure_sheet-end-2
 slice-aggregate-put-figure-sheet-2 c =
-    let e = c.before.before in
+    let e = c in
     let s = start e in
     let name = (passed e).before.before in
-    figures_count s.args.name.now (run s) s.args.froms.now s.args.tos.now s.args.out.now _ _ name.before.judge-any.ensures name.judge-name.ensures _
-    (passed e).before.refused.ensures (passed e).if1.false (replicate 64 (pos 0)) (omega arith) (told e).figures-any.result (told e).figures-any.ensures.0 _ e.before.refused2.ensures e.if2.false _ (told e).figures-any.ensures.1
+    figures_count s.args.name.now (run s) s.args.froms.now s.args.tos.now s.args.out.now _ _ name.before.judge_any.ensures name.judge_name.ensures _
+    (passed e).before.refused.ensures (passed e).if1.false (replicate 64 (pos 0)) (omega arith) (told e).figures_any.result (told e).figures_any.ensures.0 _ e.refused-2.ensures e.if-refused-2.false _ (told e).figures_any.ensures.1
 
-put-figure-sheet-requires : tie.Need-put-figure-sheet-requires
+put-figure-sheet-requires : tie.Need-put_figure_sheet-bytes-requires
 put-figure-sheet-requires c κs =
-    let e = c.before.before in
+    let e = c in
     let s = start e in
     let name = (passed e).before.before in
-    figures_fit s.args.name.now (run s) s.args.froms.now s.args.tos.now s.args.out.now _ _ name.before.judge-any.ensures name.judge-name.ensures _
-    (passed e).before.refused.ensures (passed e).if1.false (replicate 64 (pos 0)) (omega arith) (told e).figures-any.result (told e).figures-any.ensures.0 _ e.before.refused2.ensures e.if2.false _ (told e).figures-any.ensures.1 _ (search rules)
+    figures_fit s.args.name.now (run s) s.args.froms.now s.args.tos.now s.args.out.now _ _ name.before.judge_any.ensures name.judge_name.ensures _
+    (passed e).before.refused.ensures (passed e).if1.false (replicate 64 (pos 0)) (omega arith) (told e).figures_any.result (told e).figures_any.ensures.0 _ e.refused-2.ensures e.if-refused-2.false _ (told e).figures_any.ensures.1 _ (search rules)
 
-array-share-prefix-page : tie.Need-array-share-prefix-page
+array-share-prefix-page : tie.Need-slice_bounds-page-end
 array-share-prefix-page c = search rules
 
-slice-aggregate-hand-out : tie.Need-slice-aggregate-hand-out
-slice-aggregate-hand-out c = part_length _ _ _ _ _ c.before.before.put-figure-sheet.ensures
+slice-aggregate-hand-out : tie.Need-slice_bounds-hand_out-end
+slice-aggregate-hand-out c = part_length _ _ _ _ _ c.put_figure_sheet-bytes.ensures
 
-hand-out-requires : tie.Need-hand-out-requires
+hand-out-requires : tie.Need-hand_out-requires
 hand-out-requires c κs = search rules
 
-same_length : tie.Need-same-length
-same_length c = c.before.before.hand-out.auto.1.0
+same_length : tie.Need-shape_of-out
+same_length c = c.hand_out.auto.out
 
-returns-3 : tie.Need-returns-3
+returns-3 : tie.Need-returns
 returns-3 c =
-    let sheet = c.before.before.before.before.before.before in
-    let e = sheet.before.before.before in
+    let sheet = c in
+    let e = sheet in
     let s = start e in
     let name = (passed e).before.before in
-    let wrote = figures_wrote s.args.name.now (run s) s.args.froms.now s.args.tos.now s.args.out.now _ _ name.before.judge-any.ensures name.judge-name.ensures _
-    (passed e).before.refused.ensures (passed e).if1.false (replicate 64 (pos 0)) (omega arith) (told e).figures-any.result (told e).figures-any.ensures.0 _ e.before.refused2.ensures e.if2.false _ (told e).figures-any.ensures.1 _ _ _ sheet.put-figure-sheet.ensures in
-    page_handed _ _ _ _ _ wrote _ _ (last e) _ _ c.before.before.hand-out.ensures
+    let wrote = figures_wrote s.args.name.now (run s) s.args.froms.now s.args.tos.now s.args.out.now _ _ name.before.judge_any.ensures name.judge_name.ensures _
+    (passed e).before.refused.ensures (passed e).if1.false (replicate 64 (pos 0)) (omega arith) (told e).figures_any.result (told e).figures_any.ensures.0 _ e.refused-2.ensures e.if-refused-2.false _ (told e).figures_any.ensures.1 _ _ _ sheet.put_figure_sheet-bytes.ensures in
+    page_handed _ _ _ _ _ wrote _ _ (last e) _ _ c.hand_out.ensures
 
-pub write-figures-any-spec : {M : Type 1} → statement M
-write-figures-any-spec =
+pub write_figures_any_spec : {M : Type 1} → statement M
+write_figures_any_spec =
     tie.close
     (tie.spec
     judge-any-requires

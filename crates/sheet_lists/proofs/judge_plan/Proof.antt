@@ -5,26 +5,26 @@ use borrow.Author.Rules.{rules}
 use Rattle.sheet_lists.proofs.judge_plan.Statement.{statement}
 use Rattle.sheet_lists.proofs.judge_plan.Tie as tie
 
-read-top-requires : tie.Need-read-top-requires
+read-top-requires : tie.Need-read_top-requires
 read-top-requires c κs = search rules
 
-enum-known-line : tie.Need-enum-known-line
+enum-known-line : tie.Need-enum_known-line
 enum-known-line c = search rules
 
-enum-known-detours : tie.Need-enum-known-detours
+enum-known-detours : tie.Need-enum_known-detours
 enum-known-detours c = search rules
 
-read-below-requires : tie.Need-read-below-requires
-read-below-requires c κs = below_starts _ _ c.before.before.before.read-top.ensures _ _ c.before.detours.given.1
+read-below-requires : tie.Need-read_below-requires
+read-below-requires c κs = below_starts _ _ c.read_top.ensures _ _ c.in-Good.is
 
-returns : tie.Need-returns
-returns c = top_bad _ _ c.before.before.before.read-top.ensures _ c.before.line.given.1
+returns : tie.Need-returns-in-Bad
+returns c = top_bad _ _ c.read_top.ensures _ c.in-Bad.is
 
-returns-2 : tie.Need-returns-2
-returns-2 c = plan_found _ _ c.before.before.before.before.read-top.ensures _ _ c.before.before.detours.given.1 c.read_below.result c.read_below.ensures
+returns-2 : tie.Need-returns-in-Good
+returns-2 c = plan_found _ _ c.read_top.ensures _ _ c.in-Good.is c.read_below.result c.read_below.ensures
 
-pub judge-plan-spec : {M : Type 1} → statement M
-judge-plan-spec =
+pub judge_plan_spec : {M : Type 1} → statement M
+judge_plan_spec =
     tie.close
     (tie.spec
     read-top-requires

@@ -7,53 +7,53 @@ use borrow.Author.Rules.{rules}
 use Rattle.sheet_lists.proofs.read_list.Statement.{statement}
 use Rattle.sheet_lists.proofs.read_list.Tie as tie
 
-refuse-if-requires : tie.Need-refuse-if-requires
+refuse-if-requires : tie.Need-refuse_if-long-requires
 refuse-if-requires c κs = search rules
 
 refused-requires : tie.Need-refused-requires
 refused-requires c κs = search rules
 
 -- The way back from a place in the code to the one that the name says.
-abbrev at-start : tie.After-refuse-if → tie.Start
+abbrev at-start : tie.After-refuse_if-long → tie.Start
 at-start c = c.before.before.before.before
 
-returns : tie.Need-returns
+returns : tie.Need-returns-then-refused
 unfolding list_form
 returns c =
-    let ri = c.before.before in
-    let s = at-start ri in
+    let ri = c in
+    let s = at-start ri.before.before in
     read_long (list_bad_line s.args.list.now) (list_detours s.args.list.now) (list_text s.args.list.now) s.args.list.now s.args.froms.now
-    s.args.tos.now _ ri.refuse-if.ensures _ c.before.refused.ensures c.if1.true
+    s.args.tos.now _ ri.refuse_if-long.ensures _ c.refused.ensures c.if-refused.true
 
-judge-list-requires : tie.Need-judge-list-requires
+judge-list-requires : tie.Need-judge_list-requires
 judge-list-requires c κs = search rules
 
-read-as-requires : tie.Need-read-as-requires
+read-as-requires : tie.Need-read_as-requires
 read-as-requires c κs =
-    let jl = c.before.before in
-    let s = at-start jl.before.before.before in
+    let jl = c in
+    let s = at-start jl.before.before.before.before.before in
     form_within (list_bad_line s.args.list.now) (list_detours s.args.list.now) (list_text s.args.list.now) s.args.list.now s.args.froms.now
-    s.args.tos.now jl.judge-list.result jl.judge-list.ensures
+    s.args.tos.now jl.judge_list.result jl.judge_list.ensures
 
-same_length : tie.Need-same-length
-same_length c = c.before.before.before.before.read_as.auto.1.1.0
+same_length : tie.Need-shape_of-froms
+same_length c = c.read_as.auto.froms
 
-same-length-2 : tie.Need-same-length-2
-same-length-2 c = c.before.before.before.before.read_as.auto.1.1.1.0
+same-length-2 : tie.Need-shape_of-tos
+same-length-2 c = c.read_as.auto.tos
 
-returns-2 : tie.Need-returns-2
+returns-2 : tie.Need-returns
 unfolding list_form
 returns-2 c =
-    let ra = c.before.before.before.before in
-    let jl = ra.before.before.before in
-    let ri = jl.before.before.before in
-    let s = at-start ri in
+    let ra = c in
+    let jl = ra in
+    let ri = jl in
+    let s = at-start ri.before.before.before.before.before.before.before.before.before.before in
     read_formed (list_bad_line s.args.list.now) (list_detours s.args.list.now) (list_text s.args.list.now) s.args.list.now s.args.froms.now
-    s.args.tos.now _ ri.refuse-if.ensures _ jl.before.before.refused.ensures jl.before.if1.false jl.judge-list.result jl.judge-list.ensures _ _ _
+    s.args.tos.now _ ri.refuse_if-long.ensures _ jl.refused.ensures jl.if-refused.false jl.judge_list.result jl.judge_list.ensures _ _ _
     ra.read_as.ensures
 
-pub read-list-spec : {M : Type 1} → statement M
-read-list-spec =
+pub read_list_spec : {M : Type 1} → statement M
+read_list_spec =
     tie.close
     (tie.spec
     refuse-if-requires

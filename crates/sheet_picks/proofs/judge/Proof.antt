@@ -7,35 +7,43 @@ use Rattle.sheet_picks.proofs.judge.Statement.{statement}
 use Rattle.sheet_picks.proofs.judge.Tie as tie
 
 -- The way back from a place in the code to the one that the name says.
-abbrev at-start-from-refuse-if2 : tie.After-refuse-if2 → tie.Start
+abbrev at-start-from-refuse-if2 : tie.After-refuse_if-2 → tie.Start
 at-start-from-refuse-if2 c = c.before.before.before.before.before.before.before.before
 
-is-name-requires : tie.Need-is-name-requires
+is-name-requires : tie.Need-is_name-requires
 is-name-requires c κs = search rules
 
-refuse-if-requires : tie.Need-refuse-if-requires
+refuse-if-requires : tie.Need-refuse_if-requires
 refuse-if-requires c κs = search rules
 
-returns : tie.Need-returns
+returns : tie.Need-returns-then-not-is_name
 returns c =
-    c.refuse-if.ensures ∙ name_bad _ c.before.before.before.before.before.args.list.now _ _ c.before.before.is_name.ensures c.before.if1.true
+    c.refuse_if.ensures ∙ name_bad _ c.args.list.now _ _ c.is_name.ensures c.if-not-is_name.true-raw
 
-judge-list-requires : tie.Need-judge-list-requires
+judge-list-requires : tie.Need-judge_list-paths-requires
 judge-list-requires c κs = search rules
 
 refused-requires : tie.Need-refused-requires
 refused-requires c κs = search rules
 
-returns-2 : tie.Need-returns-2
+returns-2 : tie.Need-returns-then-refused
 returns-2 c =
-    list_bad c.before.before.before.before.before.before.before.args.name.now _ _ _ c.before.before.before.before.is_name.ensures c.before.before.before.if1.false _ c.before.before.judge-list.ensures _ c.before.refused.ensures c.if2.true
+    list_bad c.args.name.now _ _ _ c.is_name.ensures c.if-not-is_name.false-raw _ c.judge_list-paths.ensures _ c.refused.ensures c.if-refused.true
 
-refuse-if-requires-2 : tie.Need-refuse-if-requires-2
+refuse-if-requires-2 : tie.Need-refuse_if-requires-2
 refuse-if-requires-2 c κs = search rules
 
-returns-3 : tie.Need-returns-3
+returns-3 : tie.Need-returns
 returns-3 c =
-    list_good (at-start-from-refuse-if2 c).args.name.now _ _ _ c.before.before.before.before.before.is_name.ensures c.before.before.before.before.if1.false _ c.before.before.before.judge-list.ensures _ c.before.before.refused.ensures c.before.if2.false _ c.refuse-if2.ensures
+    list_good (at-start-from-refuse-if2 c).args.name.now _ _ _ c.is_name.ensures c.if-not-is_name.false-raw _ c.judge_list-paths.ensures _ c.refused.ensures c.if-refused.false _ c.refuse_if-2.ensures
 
-pub judge-spec : {M : Type 1} → statement M
-judge-spec = tie.close (tie.spec is-name-requires refuse-if-requires returns judge-list-requires refused-requires returns-2 refuse-if-requires-2 returns-3)
+pub judge_spec : {M : Type 1} → statement M
+judge_spec = tie.close (tie.spec
+    is-name-requires
+    refuse-if-requires
+    returns
+    judge-list-requires
+    refused-requires
+    returns-2
+    refuse-if-requires-2
+    returns-3)

@@ -8,69 +8,69 @@ use Rattle.answer_ltfs.proofs.input.answer.Statement.{statement}
 use Rattle.answer_ltfs.proofs.input.answer.Tie as tie
 
 -- Where the sheet was drafted, and where it was not refused.
-abbrev told : tie.After-refused → tie.After-draft
+abbrev told : tie.After-refused → tie.After-draft-report
 told c = c.before.before
 
-abbrev passed : tie.After-list2 → tie.Else1
+abbrev passed : tie.After-list-2-1 → tie.Else-refused
 passed c = c.before.before.before
 
-slice-aggregate-draft : tie.Need-slice-aggregate-draft
+slice-aggregate-draft : tie.Need-slice_bounds-draft-end
 slice-aggregate-draft c = search rules
 
-draft-requires : tie.Need-draft-requires
+draft-requires : tie.Need-draft-report-requires
 draft-requires c κs = search rules
 
 refused-requires : tie.Need-refused-requires
 refused-requires c κs = search rules
 
-write-refusal-requires : tie.Need-write-refusal-requires
+write-refusal-requires : tie.Need-write_refusal-lines-requires
 write-refusal-requires c κs = search rules
 
-same_length : tie.Need-same-length
-same_length c = c.before.before.write-refusal.auto.1.0
+same_length : tie.Need-shape_of-out-then-refused
+same_length c = c.write_refusal-lines.auto.out
 
-returns : tie.Need-returns
+returns : tie.Need-returns-then-refused
 returns c =
-    let w = c.before.before in
-    let t = w.before.before in
-    answer_refused _ _ _ _ (told t.before).draft.ensures _ t.before.refused.ensures t.if1.true _ _ _ _ w.write-refusal.ensures
+    let w = c in
+    let t = w in
+    answer_refused _ _ _ _ (told t.before.before.before.before.before).draft-report.ensures _ t.refused.ensures t.if-refused.true _ _ _ _ w.write_refusal-lines.ensures
 
-slice-aggregate-put-left-out : tie.Need-slice-aggregate-put-left-out
+slice-aggregate-put-left-out : tie.Need-slice_bounds-put_left_out-end
 slice-aggregate-put-left-out c = search rules
 
-put-left-out-requires : tie.Need-put-left-out-requires
+put-left-out-requires : tie.Need-put_left_out-noted-requires
 put-left-out-requires c κs = search rules
 
-array-share-prefix-page : tie.Need-array-share-prefix-page
-array-share-prefix-page c = let p = passed c in omega (arith, sheet_fits _ _ _ _ (told p.before).draft.ensures _ p.before.refused.ensures p.if1.left)
+array-share-prefix-page : tie.Need-slice_bounds-page-end
+array-share-prefix-page c = let p = passed c in omega (arith, sheet_fits _ _ _ _ (told p.before).draft-report.ensures _ p.refused.ensures p.if-refused.false)
 
-slice-aggregate-hand-both : tie.Need-slice-aggregate-hand-both
-slice-aggregate-hand-both c = let p = passed c.before in sheet_part _ _ _ _ (told p.before).draft.ensures _ p.before.refused.ensures p.if1.left
+slice-aggregate-hand-both : tie.Need-slice_bounds-hand_both-end
+slice-aggregate-hand-both c = let p = passed c.before in sheet_part _ _ _ _ (told p.before).draft-report.ensures _ p.refused.ensures p.if-refused.false
 
-array-share-prefix-list : tie.Need-array-share-prefix-list
+array-share-prefix-list : tie.Need-slice_bounds-list-end
 array-share-prefix-list c = search rules
 
-slice-aggregate-hand-both-2 : tie.Need-slice-aggregate-hand-both-2
-slice-aggregate-hand-both-2 c = part_length _ _ _ _ _ c.before.before.before.put-left-out.ensures
+slice-aggregate-hand-both-2 : tie.Need-slice_bounds-hand_both-end-2
+slice-aggregate-hand-both-2 c = part_length _ _ _ _ _ c.put_left_out-noted.ensures
 
-hand-both-requires : tie.Need-hand-both-requires
+hand-both-requires : tie.Need-hand_both-requires
 hand-both-requires c κs = search rules
 
-same-length-2 : tie.Need-same-length-2
-same-length-2 c = c.before.before.before.before.hand-both.auto.1.1.0
+same-length-2 : tie.Need-shape_of-out
+same-length-2 c = c.hand_both.auto.out
 
-same-length-3 : tie.Need-same-length-3
-same-length-3 c = c.before.before.before.before.hand-both.auto.1.1.1.0
+same-length-3 : tie.Need-shape_of-notes
+same-length-3 c = c.hand_both.auto.notes
 
-returns-2 : tie.Need-returns-2
+returns-2 : tie.Need-returns
 returns-2 c =
-    let h = c.before.before.before.before in
-    let l = h.before.before.before.before.before in
-    let p = passed l in
-    answer_handed _ _ _ _ (told p.before).draft.ensures _ p.before.refused.ensures p.if1.left _ _ _ _ _ l.before.put-left-out.ensures _ _ _ h.hand-both.ensures
+    let h = c in
+    let l = h in
+    let p = passed l.before.before.before.before.before.before.before.before.before in
+    answer_handed _ _ _ _ (told p.before).draft-report.ensures _ p.refused.ensures p.if-refused.false _ _ _ _ _ l.put_left_out-noted.ensures _ _ _ h.hand_both.ensures
 
-pub answer-spec : {M : Type 1} → statement M
-answer-spec =
+pub answer_spec : {M : Type 1} → statement M
+answer_spec =
     tie.close
     (tie.spec
     slice-aggregate-draft

@@ -5,36 +5,36 @@ use borrow.Author.Rules.{rules}
 use Rattle.answer_ltfs.proofs.input.counted_at.Statement.{statement}
 use Rattle.answer_ltfs.proofs.input.counted_at.Tie as tie
 
-number-line-requires : tie.Need-number-line-requires
+number-line-requires : tie.Need-number_line-requires
 number-line-requires c κs = search rules
 
-enum-known-number : tie.Need-enum-known-number
+enum-known-number : tie.Need-enum_known-number
 enum-known-number c = search rules
 
-enum_told : tie.Need-enum-told
+enum_told : tie.Need-enum_told-1
 enum_told c = search rules
 
-returns : tie.Need-returns
-returns c = uncounted _ _ _ _ c.before.before.number-line.ensures c.enum_told.given.1
+returns : tie.Need-returns-in_default
+returns c = uncounted _ _ _ _ c.number_line.ensures c.in_default.is
 
-sub-left : tie.Need-overflow-sub-left
-sub-left c = next_within _ _ _ _ c.before.before.before.number-line.ensures _ _ c.before.number.given.1
+sub-left : tie.Need-overflow_sub-left
+sub-left c = next_within _ _ _ _ c.number_line.ensures _ _ c.in-Value.is
 
-returns-2 : tie.Need-returns-2
+returns-2 : tie.Need-returns-then-left-number
 returns-2 c =
-    let c2 = c.before.before in
-    too_few _ _ _ _ c2.before.before.number-line.ensures _ _ c2.number.given.1 c.if1.true
+    let c2 = c in
+    too_few _ _ _ _ c2.number_line.ensures _ _ c2.in-Value.is c.if-left-number.true
 
-add-t9 : tie.Need-overflow-add-t9
+add-t9 : tie.Need-overflow_add-result
 add-t9 c = search rules
 
-returns-3 : tie.Need-returns-3
+returns-3 : tie.Need-returns
 returns-3 c =
-    let c2 = c.before.before in
-    counted_there _ _ _ _ c2.before.before.number-line.ensures _ _ c2.number.given.1 c.if1.false
+    let c2 = c in
+    counted_there _ _ _ _ c2.number_line.ensures _ _ c2.in-Value.is c.if-left-number.false
 
-pub counted-at-spec : {M : Type 1} → statement M
-counted-at-spec =
+pub counted_at_spec : {M : Type 1} → statement M
+counted_at_spec =
     tie.close
     (tie.spec
     number-line-requires

@@ -8,116 +8,116 @@ use Rattle.answer_ltfs.proofs.input.draft.Statement.{statement}
 use Rattle.answer_ltfs.proofs.input.draft.Tie as tie
 
 -- Where the first line was read, where the texts behind it were.
-abbrev first-line : tie.After-known-told → tie.After-tape-line
-first-line c = c.before.before.before
+abbrev first-line : tie.In-Name → tie.After-tape_line
+first-line c = c.before
 
-abbrev behind-name : tie.After-known-told2 → tie.After-texts-at
-behind-name c = c.before.before.before
+abbrev behind-name : tie.In-Both → tie.After-texts_at
+behind-name c = c.before
 
-tape-line-requires : tie.Need-tape-line-requires
+tape-line-requires : tie.Need-tape_line-requires
 tape-line-requires c κs = search rules
 
-enum-known-end : tie.Need-enum-known-end
+enum-known-end : tie.Need-enum_known-end
 enum-known-end c = search rules
 
-enum_told : tie.Need-enum-told
+enum_told : tie.Need-enum_told-1
 enum_told c = search rules
 
-refuse-if-requires : tie.Need-refuse-if-requires
+refuse-if-requires : tie.Need-refuse_if-requires
 refuse-if-requires c κs = search rules
 
-refusal-of-requires : tie.Need-refusal-of-requires
+refusal-of-requires : tie.Need-refusal_of-requires
 refusal-of-requires c κs = search rules
 
-returns : tie.Need-returns
+returns : tie.Need-returns-in_default
 returns c =
-    let c2 = c.before.before in
-    no_name _ _ _ c2.before.before.tape-line.ensures c2.enum_told.given.1 _ c.before.refuse-if.ensures _ c.refusal-of.ensures
+    let c2 = c in
+    no_name _ _ _ c2.tape_line.ensures c2.in_default.is _ c.refuse_if.ensures _ c.refusal_of.ensures
 
-texts-at-requires : tie.Need-texts-at-requires
+texts-at-requires : tie.Need-texts_at-requires
 texts-at-requires c κs = search rules
 
-enum-known-from : tie.Need-enum-known-from
+enum-known-from : tie.Need-enum_known-from
 enum-known-from c = search rules
 
-enum-told-2 : tie.Need-enum-told-2
+enum-told-2 : tie.Need-enum_told-in_default-texts_at
 enum-told-2 c = search rules
 
-refuse-if-requires-2 : tie.Need-refuse-if-requires-2
+refuse-if-requires-2 : tie.Need-refuse_if-requires-in_default-texts_at
 refuse-if-requires-2 c κs = search rules
 
-refusal-of-requires-2 : tie.Need-refusal-of-requires-2
+refusal-of-requires-2 : tie.Need-refusal_of-requires-in_default-texts_at
 refusal-of-requires-2 c κs = search rules
 
-returns-2 : tie.Need-returns-2
+returns-2 : tie.Need-returns-in_default-texts_at
 returns-2 c =
-    let c2 = c.before.before in
-    let t = c2.before.before in
-    let k = t.before in
-    no_texts _ _ _ (first-line k).tape-line.ensures _ _ k.before.end.given.1 _ t.texts-at.ensures c2.enum-told2.given.1 _ c.before.refuse-if2.ensures _ c.refusal-of2.ensures
+    let c2 = c in
+    let t = c2 in
+    let k = t in
+    no_texts _ _ _ (first-line k.before.before.before.before).tape_line.ensures _ _ k.in-Name.is _ t.texts_at.ensures c2.in_default-texts_at.is _ c.refuse_if-in_default-texts_at.ensures _ c.refusal_of-in_default-texts_at.ensures
 
-sub-table-sheet : tie.Need-overflow-sub-table-sheet
-sub-table-sheet c = let k = (behind-name c).before in name_ordered _ _ (first-line k).tape-line.ensures _ _ k.before.end.given.1
+sub-table-sheet : tie.Need-slice_bounds-table_sheet-count
+sub-table-sheet c = let k = (behind-name c).before in name_ordered _ _ (first-line k).tape_line.ensures _ _ k.before.end.given.1
 
-part-table-sheet-start : tie.Need-slice-bounds-table-sheet-start
-part-table-sheet-start c = let k = (behind-name c).before in name_ordered _ _ (first-line k).tape-line.ensures _ _ k.before.end.given.1
+part-table-sheet-start : tie.Need-slice_bounds-table_sheet-start
+part-table-sheet-start c = let k = (behind-name c).before in name_ordered _ _ (first-line k).tape_line.ensures _ _ k.before.end.given.1
 
-part-table-sheet-end : tie.Need-slice-bounds-table-sheet-end
-part-table-sheet-end c = let k = (behind-name c).before in omega (arith, name_within _ _ (first-line k).tape-line.ensures _ _ k.before.end.given.1)
+part-table-sheet-end : tie.Need-slice_bounds-table_sheet-end
+part-table-sheet-end c = let k = (behind-name c).before in omega (arith, name_within _ _ (first-line k).tape_line.ensures _ _ k.before.end.given.1)
 
-sub-table-sheet-2 : tie.Need-overflow-sub-table-sheet-2
+sub-table-sheet-2 : tie.Need-slice_bounds-table_sheet-count-2
 sub-table-sheet-2 c =
-    let k = c.before in
-    let t = texts_found _ _ _ (behind-name k).texts-at.ensures _ _ _ k.before.from.given.1 in
+    let k = c in
+    let t = texts_found _ _ _ (behind-name k.before).texts_at.ensures _ _ _ k.in-Both.is in
     omega (arith, t.ordered, t.within, t.start)
 
-part-table-sheet-start-2 : tie.Need-slice-bounds-table-sheet-start-2
+part-table-sheet-start-2 : tie.Need-slice_bounds-table_sheet-start-2
 part-table-sheet-start-2 c =
-    let k = c.before in
-    let t = texts_found _ _ _ (behind-name k).texts-at.ensures _ _ _ k.before.from.given.1 in
+    let k = c in
+    let t = texts_found _ _ _ (behind-name k.before).texts_at.ensures _ _ _ k.in-Both.is in
     omega (arith, t.ordered, t.within, t.start)
 
-part-table-sheet-end-2 : tie.Need-slice-bounds-table-sheet-end-2
+part-table-sheet-end-2 : tie.Need-slice_bounds-table_sheet-end-2
 part-table-sheet-end-2 c =
-    let k = c.before in
-    let t = texts_found _ _ _ (behind-name k).texts-at.ensures _ _ _ k.before.from.given.1 in
+    let k = c in
+    let t = texts_found _ _ _ (behind-name k.before).texts_at.ensures _ _ _ k.in-Both.is in
     omega (arith, t.ordered, t.within, t.start)
 
-sub-table-sheet-3 : tie.Need-overflow-sub-table-sheet-3
+sub-table-sheet-3 : tie.Need-slice_bounds-table_sheet-count-3
 sub-table-sheet-3 c =
-    let k = c.before.before in
-    let t = texts_found _ _ _ (behind-name k).texts-at.ensures _ _ _ k.before.from.given.1 in
+    let k = c in
+    let t = texts_found _ _ _ (behind-name k.before.before).texts_at.ensures _ _ _ k.in-Both.is in
     omega (arith, t.ordered, t.within, t.start)
 
-part-table-sheet-start-3 : tie.Need-slice-bounds-table-sheet-start-3
+part-table-sheet-start-3 : tie.Need-slice_bounds-table_sheet-start-3
 part-table-sheet-start-3 c =
-    let k = c.before.before in
-    let t = texts_found _ _ _ (behind-name k).texts-at.ensures _ _ _ k.before.from.given.1 in
+    let k = c in
+    let t = texts_found _ _ _ (behind-name k.before.before).texts_at.ensures _ _ _ k.in-Both.is in
     omega (arith, t.ordered, t.within, t.start)
 
-part-table-sheet-end-3 : tie.Need-slice-bounds-table-sheet-end-3
+part-table-sheet-end-3 : tie.Need-slice_bounds-table_sheet-end-3
 part-table-sheet-end-3 c =
-    let k = c.before.before in
-    let t = texts_found _ _ _ (behind-name k).texts-at.ensures _ _ _ k.before.from.given.1 in
+    let k = c in
+    let t = texts_found _ _ _ (behind-name k.before.before).texts_at.ensures _ _ _ k.in-Both.is in
     omega (arith, t.ordered, t.within, t.start)
 
-table-sheet-requires : tie.Need-table-sheet-requires
+table-sheet-requires : tie.Need-table_sheet-requires
 table-sheet-requires c κs = search rules
 
-same_length : tie.Need-same-length
-same_length c = c.before.before.table-sheet.auto.1.1.1.0
+same_length : tie.Need-shape_of-page
+same_length c = c.table_sheet.auto.out
 
-returns-3 : tie.Need-returns-3
+returns-3 : tie.Need-returns
 returns-3 c =
-    let s = c.before.before in
-    let k2 = s.before.before.before.before.before in
-    let t = behind-name k2 in
-    let k = t.before in
-    let first = first-line k in
-    drafted _ _ _ first.tape-line.ensures _ _ k.before.end.given.1 _ t.texts-at.ensures _ _ _ k2.before.from.given.1 first.before.before.before.pre _ _ _ refl refl refl _ s.table-sheet.ensures.0 _ s.table-sheet.ensures.1
+    let s = c in
+    let k2 = s in
+    let t = behind-name k2.before.before.before.before.before.before.before in
+    let k = t in
+    let first = first-line k.before in
+    drafted _ _ _ first.tape_line.ensures _ _ k.in-Name.is _ t.texts_at.ensures _ _ _ k2.in-Both.is first.requires _ _ _ refl refl refl _ s.table_sheet.ensures.0 _ s.table_sheet.ensures.1
 
-pub draft-spec : {M : Type 1} → statement M
-draft-spec =
+pub draft_spec : {M : Type 1} → statement M
+draft_spec =
     tie.close
     (tie.spec
     tape-line-requires

@@ -8,34 +8,34 @@ use borrow.Author.Rules.{rules}
 use Rattle.answer_ltfs.proofs.sheet.judge_files.Statement.{statement}
 use Rattle.answer_ltfs.proofs.sheet.judge_files.Tie as tie
 
-returns : tie.Need-returns
-returns c = rw c.if1.true
+returns : tie.Need-returns-then-not-tally
+returns c = rw c.if-not-tally.true
 
-returns-2 : tie.Need-returns-2
-returns-2 c = rw (c.before.if1.false, c.if2.true)
+returns-2 : tie.Need-returns-then-tally
+returns-2 c = rw (c.if-not-tally.false, c.if-tally.true)
 
-returns-3 : tie.Need-returns-3
-returns-3 c = rw (c.before.before.if1.false, c.before.if2.false, c.if3.true)
+returns-3 : tie.Need-returns-then-tally-2
+returns-3 c = rw (c.if-not-tally.false, c.if-tally.false, c.if-tally-2.true)
 
-slice-aggregate-neighbours-overlap : tie.Need-slice-aggregate-neighbours-overlap
+slice-aggregate-neighbours-overlap : tie.Need-slice_bounds-neighbours_overlap-end
 slice-aggregate-neighbours-overlap c = sym (length-take-le _ _ (search rules))
 
-slice-aggregate-neighbours-overlap-2 : tie.Need-slice-aggregate-neighbours-overlap-2
+slice-aggregate-neighbours-overlap-2 : tie.Need-slice_bounds-neighbours_overlap-end-2
 slice-aggregate-neighbours-overlap-2 c = sym (length-take-le _ _ (search rules))
 
-neighbours-overlap-requires : tie.Need-neighbours-overlap-requires
+neighbours-overlap-requires : tie.Need-neighbours_overlap-requires
 neighbours-overlap-requires c κs = search rules
 
-refuse-if-requires : tie.Need-refuse-if-requires
+refuse-if-requires : tie.Need-refuse_if-requires
 refuse-if-requires c κs = search rules
 
-returns-4 : tie.Need-returns-4
+returns-4 : tie.Need-returns
 returns-4 c =
-    let third = c.before.before.before.before in
-    rw (third.before.before.if1.false, third.before.if2.false, third.if3.false) (last_if Overlap refl c.refuse-if.ensures c.before.neighbours-overlap.ensures)
+    let third = c in
+    rw (third.if-not-tally.false, third.if-tally.false, third.if-tally-2.false) (last_if Overlap refl c.refuse_if.ensures c.neighbours_overlap.ensures)
 
-pub judge-files-spec : {M : Type 1} → statement M
-judge-files-spec =
+pub judge_files_spec : {M : Type 1} → statement M
+judge_files_spec =
     tie.close
     (tie.spec
     returns

@@ -8,36 +8,36 @@ use borrow.Author.Rules.{rules}
 use Rattle.answer_ltfs.proofs.sheet.write_table.Statement.{statement}
 use Rattle.answer_ltfs.proofs.sheet.write_table.Tie as tie
 
-array-share-prefix-none : tie.Need-array-share-prefix-none
+array-share-prefix-none : tie.Need-slice_bounds-none-end
 array-share-prefix-none c = search rules
 
-slice-aggregate-wants : tie.Need-slice-aggregate-wants
+slice-aggregate-wants : tie.Need-slice_bounds-wants-end
 slice-aggregate-wants c = search rules
 
-array-share-prefix-zeros : tie.Need-array-share-prefix-zeros
+array-share-prefix-zeros : tie.Need-slice_bounds-zeros-end
 array-share-prefix-zeros c = search rules
 
-slice-aggregate-write-sheet : tie.Need-slice-aggregate-write-sheet
+slice-aggregate-write-sheet : tie.Need-slice_bounds-write_sheet-end
 slice-aggregate-write-sheet c = sym (length-take-le _ _ (search rules))
 
-write-sheet-requires : tie.Need-write-sheet-requires
+write-sheet-requires : tie.Need-write_sheet-requires
 write-sheet-requires c κs = search rules
 
-same_length : tie.Need-same-length
-same_length c = c.before.before.write-sheet.auto.1.1.1.1.1.1.1.1.0
+same_length : tie.Need-shape_of-out
+same_length c = c.write_sheet.auto.out
 
 -- The way back from a place in the code to the one that the name says.
-abbrev at-start : tie.After-write-sheet → tie.Start
+abbrev at-start : tie.After-write_sheet → tie.Start
 at-start c = c.before.before.before.before.before.before.before.before
 
 returns : tie.Need-returns
 returns c =
-    let ws = c.before.before in
-    let c10 = at-start ws in
-    table_written _ _ _ _ _ _ _ _ (zero_row _ 256 c10.pre) ws.write-sheet.ensures
+    let ws = c in
+    let c10 = at-start ws.before.before in
+    table_written _ _ _ _ _ _ _ _ (zero_row _ 256 c10.requires) ws.write_sheet.ensures
 
-pub write-table-spec : {M : Type 1} → statement M
-write-table-spec =
+pub write_table_spec : {M : Type 1} → statement M
+write_table_spec =
     tie.close
     (tie.spec
     array-share-prefix-none

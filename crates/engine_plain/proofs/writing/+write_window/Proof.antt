@@ -169,11 +169,11 @@ write-window-write-window-requires t c κs =
 
 write-window-same-length : (t : ℕ) → write-window-lts.Need-same-length (write-window-calls t) (write-window-at t) write-window.Post
 write-window-same-length t c =
-    c.before.before.before.before.write-window.auto.1.1.1.1.1.1.1.1.0
+    c.before.before.before.before.write_window.auto.1.1.1.1.1.1.1.1.0
 
 write-window-same-length-2 : (t : ℕ) → write-window-lts.Need-same-length-2 (write-window-calls t) (write-window-at t) write-window.Post
 write-window-same-length-2 t c =
-    c.before.before.before.before.write-window.auto.1.1.1.1.1.1.1.1.1.0
+    c.before.before.before.before.write_window.auto.1.1.1.1.1.1.1.1.1.0
 
 write-window-returns-2 : (t : ℕ) → write-window-lts.Need-returns-2 (write-window-calls t) (write-window-at t) write-window.Post
 write-window-returns-2 t c =
@@ -181,7 +181,7 @@ write-window-returns-2 t c =
     let t2 = ww.before.before.before in
     let e1 = t2.before.before.before in
     let z = at-start t e1 in
-    skip_written _ _ _ _ _ _ _ _ _ _ _ _ z.pre.1.0 z.pre.1.1 e1.if1.false t2.before.before.chosen.ensures t2.if2.true _ _ _ ww.write-window.ensures
+    skip_written _ _ _ _ _ _ _ _ _ _ _ _ z.pre.1.0 z.pre.1.1 e1.if1.false t2.before.before.chosen.ensures t2.if2.true _ _ _ ww.write_window.ensures
 
 write-window-sub-write-window-2 : (t : ℕ) → write-window-lts.Need-overflow-sub-write-window-2 (write-window-calls t) (write-window-at t) write-window.Post
 write-window-sub-write-window-2 t c =
@@ -278,8 +278,8 @@ write-window-returns-3 t c =
     detour_written _ _ _ _ _ _ _ _ _ _ _ _ z.pre.1.0 z.pre.1.1 e1.if1.left e2.before.before.chosen.ensures e2.if2.left _ _ _
     ww2.write-window2.ensures _ _ _ (at-write-window3 t c).write-window3.ensures
 
-pub +write-window-spec : {M : Type 1} → statement M
-+write-window-spec =
+pub +write_window_spec : {M : Type 1} → statement M
++write_window_spec =
     close μ-write-window
     (λ t. write-window-lts.spec (write-window-calls t) (write-window-at t) write-window.Post
     (write-window-returns t)

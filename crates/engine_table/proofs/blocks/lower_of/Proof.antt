@@ -4,11 +4,13 @@ use borrow.Author.Tests.{lt-ltb, le-ltb}
 use Rattle.engine_table.proofs.blocks.lower_of.Statement.{statement}
 use Rattle.engine_table.proofs.blocks.lower_of.Tie as tie
 
-returns : tie.Need-returns
-returns c = rw (lt-ltb _ _ c.if1.true)
+returns : tie.Need-returns-then-y-x
+returns c = rw (lt-ltb _ _ c.if-y-x.true)
 
-returns-2 : tie.Need-returns-2
-returns-2 c = rw (le-ltb _ _ c.if1.false)
+returns-2 : tie.Need-returns-else-y-x
+returns-2 c = rw (le-ltb _ _ c.if-y-x.false)
 
-pub lower-of-spec : {M : Type 1} → statement M
-lower-of-spec = tie.close (tie.spec returns returns-2)
+pub lower_of_spec : {M : Type 1} → statement M
+lower_of_spec = tie.close (tie.spec
+    returns
+    returns-2)

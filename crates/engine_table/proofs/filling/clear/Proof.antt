@@ -9,38 +9,38 @@ use Rattle.engine_table.proofs.Words.{written_none, written_more, written_all}
 use Rattle.engine_table.proofs.filling.clear.Statement.{statement}
 use Rattle.engine_table.proofs.filling.clear.Tie as tie
 
-abbrev invariant-loop : tie.invariant-loop
+abbrev invariant-loop : tie.invariant-loop-i
 invariant-loop room₀ at n i₀ room i = (i ≤ n) × Written at i (λ s. 0) room₀ room
 
-abbrev decreases-loop : tie.decreases-loop
+abbrev decreases-loop : tie.decreases-loop-i
 decreases-loop room₀ at n i₀ room i = n - i
 
-loop-holds : tie.Need-loop-init invariant-loop decreases-loop
+loop-holds : tie.Need-loop-i-init invariant-loop decreases-loop
 loop-holds c = (search rules, written_none _ _ _)
 
-add-room : tie.Need-overflow-add-room invariant-loop decreases-loop
+add-room : tie.Need-overflow_add-room invariant-loop decreases-loop
 add-room c = search rules
 
-mul-room : tie.Need-overflow-mul-room invariant-loop decreases-loop
+mul-room : tie.Need-offset_bounds-room-at invariant-loop decreases-loop
 mul-room c = search rules
 
-slice-write-room : tie.Need-slice-write-room invariant-loop decreases-loop
+slice-write-room : tie.Need-bounds-room-at invariant-loop decreases-loop
 slice-write-room c = search rules
 
-add-i : tie.Need-overflow-add-i invariant-loop decreases-loop
+add-i : tie.Need-overflow_add-i invariant-loop decreases-loop
 add-i c = search rules
 
-loop-less : tie.Need-loop-smaller invariant-loop decreases-loop
+loop-less : tie.Need-loop-i-smaller invariant-loop decreases-loop
 loop-less c = search rules
 
-loop-again : tie.Need-loop-preserved invariant-loop decreases-loop
-loop-again c = let v = c.before.loop.invariant in (search rules, written_more _ _ _ _ _ v.1 (search rules) _ refl)
+loop-again : tie.Need-loop-i-preserved invariant-loop decreases-loop
+loop-again c = let v = c.loop-i.invariant in (search rules, written_more _ _ _ _ _ v.1 (search rules) _ refl)
 
-same_length : tie.Need-same-length invariant-loop decreases-loop
-same_length c = c.before.loop.invariant.1.kept.same
+same_length : tie.Need-shape_of-room invariant-loop decreases-loop
+same_length c = c.loop-i.invariant.1.kept.same
 
 returns : tie.Need-returns invariant-loop decreases-loop
-returns c = let v = c.before.loop.invariant in written_all _ _ _ _ _ _ v.1 (omega arith)
+returns c = let v = c.loop-i.invariant in written_all _ _ _ _ _ _ v.1 (omega arith)
 
 pub clear_spec : {M : Type 1} → statement M
 clear_spec =

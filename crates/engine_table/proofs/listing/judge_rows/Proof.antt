@@ -10,37 +10,44 @@ use Rattle.engine_table.specs.Private.{list_rows_verdict}
 use Rattle.engine_table.proofs.listing.judge_rows.Statement.{statement}
 use Rattle.engine_table.proofs.listing.judge_rows.Tie as tie
 
-short-rows-requires : tie.Need-short-rows-requires
+short-rows-requires : tie.Need-short_rows-requires
 short-rows-requires c κs = search rules
 
-refuse-if-requires : tie.Need-refuse-if-requires
+refuse-if-requires : tie.Need-refuse_if-rows-requires
 refuse-if-requires c κs = search rules
 
 refused-requires : tie.Need-refused-requires
 refused-requires c κs = search rules
 
-returns : tie.Need-returns
+returns : tie.Need-returns-then-refused
 unfolding list_rows_verdict
 returns c =
-    let rows = c.before.before in
-    let is = rows.refuse-if.ensures ∙ ap (λ b. refuse_if b ShortRow) rows.before.short-rows.ensures in
-    rw (test_says is c.before.refused.ensures c.if1.true) is
+    let rows = c in
+    let is = rows.refuse_if-rows.ensures ∙ ap (λ b. refuse_if b ShortRow) rows.short_rows.ensures in
+    rw (test_says is c.refused.ensures c.if-refused.true) is
 
-table-words-requires : tie.Need-table-words-requires
+table-words-requires : tie.Need-table_words-requires
 table-words-requires c κs = search rules
 
-refuse-if-requires-2 : tie.Need-refuse-if-requires-2
+refuse-if-requires-2 : tie.Need-refuse_if-requires
 refuse-if-requires-2 c κs = search rules
 
-returns-2 : tie.Need-returns-2
+returns-2 : tie.Need-returns
 unfolding list_rows_verdict
 returns-2 c =
-    let passed = c.before.before in
-    let rows = passed.before.before in
-    let is = rows.refuse-if.ensures ∙ ap (λ b. refuse_if b ShortRow) rows.before.short-rows.ensures in
-    rw (test_says is passed.before.refused.ensures passed.if1.false)
-    (last_if ShortRoom refl c.refuse-if2.ensures (ap (λ n. ltb rows.before.before.args.room n) c.before.table-words.ensures))
+    let passed = c in
+    let rows = passed in
+    let is = rows.refuse_if-rows.ensures ∙ ap (λ b. refuse_if b ShortRow) rows.short_rows.ensures in
+    rw (test_says is passed.refused.ensures passed.if-refused.false)
+    (last_if ShortRoom refl c.refuse_if.ensures (ap (λ n. ltb rows.args.room n) c.table_words.ensures))
 
-pub judge-rows-spec : {M : Type 1} → statement M
-judge-rows-spec =
-    tie.close (tie.spec short-rows-requires refuse-if-requires refused-requires returns table-words-requires refuse-if-requires-2 returns-2)
+pub judge_rows_spec : {M : Type 1} → statement M
+judge_rows_spec =
+    tie.close (tie.spec
+    short-rows-requires
+    refuse-if-requires
+    refused-requires
+    returns
+    table-words-requires
+    refuse-if-requires-2
+    returns-2)

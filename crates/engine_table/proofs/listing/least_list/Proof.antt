@@ -17,93 +17,93 @@ some-wanted : (n : ℕ) → (n ≡ 0 → ⊥) → 0 < n
 some-wanted n h = omega arith
 
 -- The way back from a place in the code to the one that the name says.
-abbrev at-start : tie.After-slice-known3 → tie.Start
+abbrev at-start : tie.After-slice_known-3-1 → tie.Start
 at-start c = c.before.before.before.before.before.before.before
 
-abbrev entry : tie.After-pulled-starts → tie.Start
+abbrev entry : tie.After-pulled_starts-lefts → tie.Start
 entry p = at-start p.before.before
 
-abbrev pulls : tie.After-fill-arg → tie.After-pulled-starts
+abbrev pulls : tie.After-fill-arg-1 → tie.After-pulled_starts-lefts
 pulls c = c.before.before.before.before
 
 abbrev at_fill : tie.After-read-off-arg3 → tie.After-fill
 at_fill c = c.before.before.before.before.before.before.before
 
-returns : tie.Need-returns
+returns : tie.Need-returns-then-numbers-eq0
 returns c =
     let z = at-start c.before in
-    (list_none_written _ _ _ (least_of_none _ _ _ _ _ _ _ z.pre.0 c.if1.true), beyond_none _ _)
+    (list_none_written _ _ _ (least_of_none _ _ _ _ _ _ _ z.requires.0 c.if-numbers-eq0.true), beyond_none _ _)
 
-pulled-starts-requires : tie.Need-pulled-starts-requires
+pulled-starts-requires : tie.Need-pulled_starts-lefts-requires
 pulled-starts-requires c κs = (at-start c.before).requires.0.few
 
-pulled-lengths-requires : tie.Need-pulled-lengths-requires
+pulled-lengths-requires : tie.Need-pulled_lengths-spans-requires
 pulled-lengths-requires c κs =
     let z = entry c in
-    (z.pre.0.few, (table_even _ _ _ _ _ _ _ z.pre.0, table_ends _ _ _ _ _ _ _ z.pre.0))
+    (z.requires.0.few, (table_even _ _ _ _ _ _ _ z.requires.0, table_ends _ _ _ _ _ _ _ z.requires.0))
 
-array-share-prefix-lefts : tie.Need-array-share-prefix-lefts
-array-share-prefix-lefts c = c.before.pulled-starts.ensures.long
+array-share-prefix-lefts : tie.Need-slice_bounds-lefts-end
+array-share-prefix-lefts c = c.pulled_starts-lefts.ensures.long
 
-slice-aggregate-fill : tie.Need-slice-aggregate-fill
+slice-aggregate-fill : tie.Need-slice_bounds-fill-end
 slice-aggregate-fill c = sym (length-take-le _ _ (array-share-prefix-lefts c.before))
 
-array-share-prefix-spans : tie.Need-array-share-prefix-spans
-array-share-prefix-spans c = c.before.pulled-lengths.ensures.long
+array-share-prefix-spans : tie.Need-slice_bounds-spans-end
+array-share-prefix-spans c = c.pulled_lengths-spans.ensures.long
 
-slice-aggregate-fill-2 : tie.Need-slice-aggregate-fill-2
+slice-aggregate-fill-2 : tie.Need-slice_bounds-fill-end-2
 slice-aggregate-fill-2 c = sym (length-take-le _ _ (array-share-prefix-spans c.before))
 
 fill-requires : tie.Need-fill-requires
 fill-requires c κs =
     let p = pulls c in
     let z = entry p in (
-      judged_met _ _ _ _ _ _ _ z.pre.0 _ _ p.pulled-starts.ensures c.before.before.before.pulled-lengths.ensures,
-      (some-wanted _ p.before.if1.left, z.pre.1.1.1),
+      judged_met _ _ _ _ _ _ _ z.requires.0 _ _ p.pulled_starts-lefts.ensures c.pulled_lengths-spans.ensures,
+      (some-wanted _ p.if-numbers-eq0.false, z.requires.1.1.1),
     )
 
-array-share-prefix-lefts-2 : tie.Need-array-share-prefix-lefts-2
-array-share-prefix-lefts-2 c = (pulls c.before.before.before).pulled-starts.ensures.long
+array-share-prefix-lefts-2 : tie.Need-slice_bounds-lefts-end-2
+array-share-prefix-lefts-2 c = (pulls c.before.before.before).pulled_starts-lefts.ensures.long
 
-slice-aggregate-read-off : tie.Need-slice-aggregate-read-off
+slice-aggregate-read-off : tie.Need-slice_bounds-read_off-end
 slice-aggregate-read-off c = sym (length-take-le _ _ (array-share-prefix-lefts-2 c.before))
 
-array-share-prefix-spans-2 : tie.Need-array-share-prefix-spans-2
-array-share-prefix-spans-2 c = c.before.before.before.before.before.before.before.pulled-lengths.ensures.long
+array-share-prefix-spans-2 : tie.Need-slice_bounds-spans-end-2
+array-share-prefix-spans-2 c = c.pulled_lengths-spans.ensures.long
 
-slice-aggregate-read-off-2 : tie.Need-slice-aggregate-read-off-2
+slice-aggregate-read-off-2 : tie.Need-slice_bounds-read_off-end-2
 slice-aggregate-read-off-2 c = sym (length-take-le _ _ (array-share-prefix-spans-2 c.before))
 
-read-off-requires : tie.Need-read-off-requires
+read-off-requires : tie.Need-read_off-requires
 read-off-requires c κs =
     let f = at_fill c in
     let p = pulls f.before in
     let z = entry p in
-    (f.fill.ensures.0, (some-wanted _ p.before.if1.left, (z.pre.1.0, z.pre.1.1.0)))
+    (f.fill.ensures.0, (some-wanted _ p.if-numbers-eq0.false, (z.requires.1.0, z.requires.1.1.0)))
 
-same_length : tie.Need-same-length
-same_length c = c.before.before.before.before.read_off.auto.1.1.1.1.1.1.1.0
+same_length : tie.Need-shape_of-froms
+same_length c = c.read_off.auto.froms
 
-same-length-2 : tie.Need-same-length-2
-same-length-2 c = c.before.before.before.before.read_off.auto.1.1.1.1.1.1.1.1.0
+same-length-2 : tie.Need-shape_of-tos
+same-length-2 c = c.read_off.auto.tos
 
-same-length-3 : tie.Need-same-length-3
-same-length-3 c = (at_fill c.before.before.before.before.before).fill.auto.1.1.1.1.1.0
+same-length-3 : tie.Need-shape_of-room
+same-length-3 c = (at_fill c.before.before.before.before.before).fill.auto.room
 
-returns-2 : tie.Need-returns-2
+returns-2 : tie.Need-returns
 returns-2 c =
-    let r = c.before.before.before.before in
+    let r = c in
     let f = at_fill r.before in
     let p = pulls f.before in
     let z = entry p in
-    let lefts = p.pulled-starts.ensures in
-    let spans = f.before.before.before.before.pulled-lengths.ensures in
-    let list = least_of_some _ _ _ _ _ _ (judged_met _ _ _ _ _ _ _ z.pre.0 _ _ lefts spans) p.before.if1.left in
-    let met = ap (least_list z.args.turn) (stops_met _ _ _ _ _ _ _ z.pre.0 _ _ lefts spans) in
+    let lefts = p.pulled_starts-lefts.ensures in
+    let spans = f.pulled_lengths-spans.ensures in
+    let list = least_of_some _ _ _ _ _ _ (judged_met _ _ _ _ _ _ _ z.requires.0 _ _ lefts spans) p.if-numbers-eq0.false in
+    let met = ap (least_list z.args.turn) (stops_met _ _ _ _ _ _ _ z.requires.0 _ _ lefts spans) in
     (list_same_written _ _ _ _ _ _ _ (list ∙ met) r.read_off.ensures, f.fill.ensures.1)
 
-pub least-list-spec : {M : Type 1} → statement M
-least-list-spec =
+pub least_list_spec : {M : Type 1} → statement M
+least_list_spec =
     tie.close
     (tie.spec
     returns

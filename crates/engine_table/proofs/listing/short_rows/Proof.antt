@@ -7,23 +7,28 @@ use borrow.Author.Rules.{rules}
 use Rattle.engine_table.proofs.listing.short_rows.Statement.{statement}
 use Rattle.engine_table.proofs.listing.short_rows.Tie as tie
 
-returns : tie.Need-returns
+returns : tie.Need-returns-then-wants-eq0
 returns c =
-    let a = c.before.args in
-    let e = c.if1.true in
+    let a = c.args in
+    let e = c.if-wants-eq0.true in
     rw (le-ltb a.froms (a.wants - 1) (omega arith), le-ltb a.tos (a.wants - 1) (omega arith))
 
-sub-if2 : tie.Need-overflow-sub-if2
+sub-if2 : tie.Need-overflow_sub-wants
 sub-if2 c = search rules
 
-returns-2 : tie.Need-returns-2
-returns-2 c = rw (lt-ltb _ _ c.if2.true)
+returns-2 : tie.Need-returns-then-froms-wants
+returns-2 c = rw (lt-ltb _ _ c.if-froms-wants.true)
 
-sub-result : tie.Need-overflow-sub-result
+sub-result : tie.Need-overflow_sub-result
 sub-result c = search rules
 
-returns-3 : tie.Need-returns-3
-returns-3 c = rw (le-ltb _ _ c.if2.false)
+returns-3 : tie.Need-returns
+returns-3 c = rw (le-ltb _ _ c.if-froms-wants.false)
 
-pub short-rows-spec : {M : Type 1} → statement M
-short-rows-spec = tie.close (tie.spec returns sub-if2 returns-2 sub-result returns-3)
+pub short_rows_spec : {M : Type 1} → statement M
+short_rows_spec = tie.close (tie.spec
+    returns
+    sub-if2
+    returns-2
+    sub-result
+    returns-3)

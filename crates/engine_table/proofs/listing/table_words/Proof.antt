@@ -13,17 +13,21 @@ square k h = mul-le-mul h h
 words : (k n : ℕ) → k ≤ 64 → n ≤ 1024 → k * k * (n + 1) ≤ 64 * 64 * 1025
 words k n h l = let m : n + 1 ≤ 1025 = omega arith in mul-le-mul (square k h) m
 
-mul-result : tie.Need-overflow-mul-result
+mul-result : tie.Need-overflow_mul-result
 mul-result c = let a = c.args in omega (arith, square a.wants (search rules))
 
-add-result : tie.Need-overflow-add-result
+add-result : tie.Need-overflow_add-result
 add-result c = search rules
 
-mul-result-2 : tie.Need-overflow-mul-result-2
+mul-result-2 : tie.Need-overflow_mul-result-2
 mul-result-2 c = let a = c.args in omega (arith, words a.wants a.reads (search rules) (search rules))
 
 returns : tie.Need-returns
 returns c = search rules
 
-pub table-words-spec : {M : Type 1} → statement M
-table-words-spec = tie.close (tie.spec mul-result add-result mul-result-2 returns)
+pub table_words_spec : {M : Type 1} → statement M
+table_words_spec = tie.close (tie.spec
+    mul-result
+    add-result
+    mul-result-2
+    returns)

@@ -6,20 +6,25 @@ use borrow.Author.Rules.{rules}
 use Rattle.engine_table.proofs.stops.row.Statement.{statement}
 use Rattle.engine_table.proofs.stops.row.Tie as tie
 
-mul-result : tie.Need-overflow-mul-result
+mul-result : tie.Need-overflow_mul-result
 mul-result c = omega (arith, across_small _ _ _ _ c.requires)
 
-add-result : tie.Need-overflow-add-result
+add-result : tie.Need-overflow_add-result
 add-result c = omega (arith, across_small _ _ _ _ c.requires)
 
-add-result-2 : tie.Need-overflow-add-result-2
+add-result-2 : tie.Need-overflow_add-result-2
 add-result-2 c = search rules
 
-mul-result-2 : tie.Need-overflow-mul-result-2
+mul-result-2 : tie.Need-overflow_mul-result-2
 mul-result-2 c = omega (arith, row_small _ _ _ _ c.requires)
 
 returns : tie.Need-returns
 returns c = search rules
 
-pub row-spec : {M : Type 1} → statement M
-row-spec = tie.close (tie.spec mul-result add-result add-result-2 mul-result-2 returns)
+pub row_spec : {M : Type 1} → statement M
+row_spec = tie.close (tie.spec
+    mul-result
+    add-result
+    add-result-2
+    mul-result-2
+    returns)

@@ -6,16 +6,19 @@ use Rattle.sheet_picks.proofs.Lines.{lies_before, lies_behind}
 use Rattle.sheet_picks.proofs.names.lies_in.Statement.{statement}
 use Rattle.sheet_picks.proofs.names.lies_in.Tie as tie
 
-start-at-requires : tie.Need-start-at-requires
+start-at-requires : tie.Need-start_at-start-requires
 start-at-requires c κs = search rules
 
-returns : tie.Need-returns
+returns : tie.Need-returns-then-start-entry
 returns c =
-    lies_before c.before.before.before.before.args.starts.now _ c.before.before.before.before.args.entry.last _ (rw c.before.before.start-at.ensures at c.if1.true)
+    lies_before c.args.starts.now _ c.args.entry.last _ (rw c.start_at-start.ensures at c.if-start-entry.true)
 
-returns-2 : tie.Need-returns-2
+returns-2 : tie.Need-returns
 returns-2 c =
-    rw c.before.before.before.start-at.ensures (lies_behind c.before.before.before.before.before.args.starts.now c.before.before.before.before.before.args.entry.first _ _ (rw c.before.before.before.start-at.ensures at c.before.if1.false))
+    rw c.start_at-start.ensures (lies_behind c.args.starts.now c.args.entry.first _ _ (rw c.start_at-start.ensures at c.if-start-entry.false))
 
-pub lies-in-spec : {M : Type 1} → statement M
-lies-in-spec = tie.close (tie.spec start-at-requires returns returns-2)
+pub lies_in_spec : {M : Type 1} → statement M
+lies_in_spec = tie.close (tie.spec
+    start-at-requires
+    returns
+    returns-2)

@@ -7,77 +7,91 @@ use Rattle.sheet_picks.proofs.names.put_line_name.Statement.{statement}
 use Rattle.sheet_picks.proofs.names.put_line_name.Tie as tie
 
 -- The way back from a place in the code to the one that the name says.
-abbrev at-start-from-then2 : tie.Then2 → tie.Start
+abbrev at-start-from-then2 : tie.Then-reads-eq0 → tie.Start
 at-start-from-then2 c = c.before.before.before.before.before.before.before.before.before
 
-abbrev at-start-from-shared-slice-known5 : tie.After-shared-slice-known5 → tie.Start
+abbrev at-start-from-shared-slice-known5 : tie.After-shared_slice_known-5-1 → tie.Start
 at-start-from-shared-slice-known5 c = c.before.before.before.before.before.before.before.before.before.before
 
-abbrev at-start-from-shared-slice-known6 : tie.After-shared-slice-known6 → tie.Start
+abbrev at-start-from-shared-slice-known6 : tie.After-shared_slice_known-6-1 → tie.Start
 at-start-from-shared-slice-known6 c = c.before.before.before.before.before.before.before.before.before.before.before
 
-abbrev at-start-from-put-name-arg : tie.After-put-name-arg → tie.Start
+abbrev at-start-from-put-name-arg : tie.After-put_name-arg-1 → tie.Start
 at-start-from-put-name-arg c = c.before.before.before.before.before.before.before.before.before.before.before.before
 
-abbrev at-start-from-slice-known2 : tie.After-slice-known2 → tie.Start
+abbrev at-start-from-slice-known2 : tie.After-slice_known-2-1 → tie.Start
 at-start-from-slice-known2 c = c.before.before.before.before.before.before.before.before.before.before.before.before.before.before.before.before
 
-abbrev at-after-lies-in-from-slice-known2 : tie.After-slice-known2 → tie.After-lies-in
+abbrev at-after-lies-in-from-slice-known2 : tie.After-slice_known-2-1 → tie.After-lies_in
 at-after-lies-in-from-slice-known2 c = c.before.before.before.before.before.before.before.before.before.before
 
-abbrev at-else1-from-slice-known2 : tie.After-slice-known2 → tie.Else1
+abbrev at-else1-from-slice-known2 : tie.After-slice_known-2-1 → tie.Else-not-lies_in
 at-else1-from-slice-known2 c = c.before.before.before.before.before.before.before.before.before
 
-abbrev at-after-first-reads-from-slice-known2 : tie.After-slice-known2 → tie.After-first-reads
+abbrev at-after-first-reads-from-slice-known2 : tie.After-slice_known-2-1 → tie.After-first_reads-reads
 at-after-first-reads-from-slice-known2 c = c.before.before.before.before.before.before.before.before
 
-lies-in-requires : tie.Need-lies-in-requires
+lies-in-requires : tie.Need-lies_in-requires
 lies-in-requires c κs = search rules
 
-returns : tie.Need-returns
+returns : tie.Need-returns-then-not-lies_in
 returns c =
-    laid_outside c.before.before.before.before.before.before.before.args.list.now c.before.before.before.before.before.before.before.args.starts.now _ _ _ _ _ _ _ _ c.before.lies_in.ensures c.if1.true
+    laid_outside c.args.list.now c.args.starts.now _ _ _ _ _ _ _ _ c.lies_in.ensures c.if-not-lies_in.true-raw
 
-first-reads-requires : tie.Need-first-reads-requires
-first-reads-requires c κs = c.before.before.before.before.before.before.before.requires
+first-reads-requires : tie.Need-first_reads-reads-requires
+first-reads-requires c κs = c.requires
 
-returns-2 : tie.Need-returns-2
+returns-2 : tie.Need-returns-then-reads-eq0
 returns-2 c =
-    laid_later (at-start-from-then2 c).args.list.now (at-start-from-then2 c).args.starts.now _ _ _ _ _ _ _ _ c.before.before.before.lies_in.ensures c.before.before.if1.false (omega (arith, (at-start-from-then2 c).requires.1)) _ c.before.first_reads.ensures c.if2.true
+    laid_later (at-start-from-then2 c).args.list.now (at-start-from-then2 c).args.starts.now _ _ _ _ _ _ _ _ c.lies_in.ensures c.if-not-lies_in.false-raw (omega (arith, (at-start-from-then2 c).requires.1)) _ c.first_reads-reads.ensures c.if-reads-eq0.true
 
-mul-from : tie.Need-overflow-mul-from
+mul-from : tie.Need-offset_bounds-froms-i
 mul-from c = search rules
 
-shared-slice-read-from : tie.Need-shared-slice-read-from
+shared-slice-read-from : tie.Need-bounds-froms-i
 shared-slice-read-from c = omega (arith, (at-start-from-shared-slice-known5 c).requires.0.left, (at-start-from-shared-slice-known5 c).requires.1)
 
-mul-end : tie.Need-overflow-mul-end
+mul-end : tie.Need-offset_bounds-tos-i
 mul-end c = search rules
 
-shared-slice-read-end : tie.Need-shared-slice-read-end
+shared-slice-read-end : tie.Need-bounds-tos-i
 shared-slice-read-end c = omega (arith, (at-start-from-shared-slice-known6 c).requires.0.right, (at-start-from-shared-slice-known6 c).requires.1)
 
-sub-put-name : tie.Need-overflow-sub-put-name
+sub-put-name : tie.Need-slice_bounds-put_name-count
 sub-put-name c =
     ((at-start-from-put-name-arg c).requires.0.stands (at-start-from-put-name-arg c).args.i (omega (arith, (at-start-from-put-name-arg c).requires.1))).ordered
 
-part-put-name-start : tie.Need-slice-bounds-put-name-start
+part-put-name-start : tie.Need-slice_bounds-put_name-start
 part-put-name-start c =
     ((at-start-from-put-name-arg c).requires.0.stands (at-start-from-put-name-arg c).args.i (omega (arith, (at-start-from-put-name-arg c).requires.1))).ordered
 
-part-put-name-end : tie.Need-slice-bounds-put-name-end
+part-put-name-end : tie.Need-slice_bounds-put_name-end
 part-put-name-end c =
     ((at-start-from-put-name-arg c).requires.0.stands (at-start-from-put-name-arg c).args.i (omega (arith, (at-start-from-put-name-arg c).requires.1))).within
 
-put-name-requires : tie.Need-put-name-requires
+put-name-requires : tie.Need-put_name-requires
 put-name-requires c κs = search rules
 
-same_length : tie.Need-same-length
-same_length c = c.before.before.put-name.ensures.long
+same_length : tie.Need-shape_of-row
+same_length c = c.put_name.ensures.long
 
-returns-3 : tie.Need-returns-3
+returns-3 : tie.Need-returns
 returns-3 c =
-    laid_name (at-start-from-slice-known2 c).args.list.now (at-start-from-slice-known2 c).args.starts.now _ _ _ _ _ _ _ _ (at-after-lies-in-from-slice-known2 c).lies_in.ensures (at-else1-from-slice-known2 c).if1.false (omega (arith, (at-start-from-slice-known2 c).requires.1)) _ (at-after-first-reads-from-slice-known2 c).first_reads.ensures c.before.before.before.before.before.before.before.if2.false _ _ ((at-start-from-slice-known2 c).requires.0.stands (at-start-from-slice-known2 c).args.i (omega (arith, (at-start-from-slice-known2 c).requires.1))) _ _ c.before.before.put-name.ensures
+    laid_name (at-start-from-slice-known2 c).args.list.now (at-start-from-slice-known2 c).args.starts.now _ _ _ _ _ _ _ _ (at-after-lies-in-from-slice-known2 c).lies_in.ensures (at-else1-from-slice-known2 c).if-not-lies_in.false-raw (omega (arith, (at-start-from-slice-known2 c).requires.1)) _ (at-after-first-reads-from-slice-known2 c).first_reads-reads.ensures c.if-reads-eq0.false _ _ ((at-start-from-slice-known2 c).requires.0.stands (at-start-from-slice-known2 c).args.i (omega (arith, (at-start-from-slice-known2 c).requires.1))) _ _ c.put_name.ensures
 
-pub put-line-name-spec : {M : Type 1} → statement M
-put-line-name-spec = tie.close (tie.spec lies-in-requires returns first-reads-requires returns-2 mul-from shared-slice-read-from mul-end shared-slice-read-end sub-put-name part-put-name-start part-put-name-end put-name-requires same_length returns-3)
+pub put_line_name_spec : {M : Type 1} → statement M
+put_line_name_spec = tie.close (tie.spec
+    lies-in-requires
+    returns
+    first-reads-requires
+    returns-2
+    mul-from
+    shared-slice-read-from
+    mul-end
+    shared-slice-read-end
+    sub-put-name
+    part-put-name-start
+    part-put-name-end
+    put-name-requires
+    same_length
+    returns-3)

@@ -8,42 +8,52 @@ use Rattle.sheet_picks.proofs.Lines.{ReadsSeen, seen_none, seen_more, seen_earli
 use Rattle.sheet_picks.proofs.paths.first_reads.Statement.{statement}
 use Rattle.sheet_picks.proofs.paths.first_reads.Tie as tie
 
-abbrev invariant-loop : tie.invariant-loop
+abbrev invariant-loop : tie.invariant-loop-h
 invariant-loop list froms tos count i reads₀ h₀ reads h = ReadsSeen list i reads h
 
-abbrev decreases-loop : tie.decreases-loop
+abbrev decreases-loop : tie.decreases-loop-h
 decreases-loop list froms tos count i reads₀ h₀ reads h = count - h
 
 -- The way back from a place in the code to the one that the name says.
-abbrev at-start-from-one-if : tie.After-one-if invariant-loop decreases-loop → tie.Start invariant-loop decreases-loop
+abbrev at-start-from-one-if : tie.After-one_if-reads invariant-loop decreases-loop → tie.Start invariant-loop decreases-loop
 at-start-from-one-if c = c.before.before.before.before.before.before.before.before
 
-loop-holds : tie.Need-loop-init invariant-loop decreases-loop
+loop-holds : tie.Need-loop-h-init invariant-loop decreases-loop
 loop-holds c = seen_none _ _
 
-same-path-requires : tie.Need-same-path-requires invariant-loop decreases-loop
+same-path-requires : tie.Need-same_path-same-requires invariant-loop decreases-loop
 same-path-requires c κs =
-    (c.before.before.before.before.before.requires.0, (omega (arith, c.before.before.before.before.before.requires.1), omega (arith, c.before.before.before.before.before.requires.1.0, c.loop-test.true)))
+    (c.requires.0, (omega (arith, c.requires.1), omega (arith, c.requires.1.0, c.loop-h-test.true)))
 
-returns : tie.Need-returns invariant-loop decreases-loop
-returns c = seen_earlier _ _ _ _ c.before.before.before.loop.invariant _ c.before.same-path.ensures c.if1.true
+returns : tie.Need-returns-then-same-h invariant-loop decreases-loop
+returns c = seen_earlier _ _ _ _ c.loop-h.invariant _ c.same_path-same.ensures c.if-same-h.true
 
-one-if-requires : tie.Need-one-if-requires invariant-loop decreases-loop
-one-if-requires c κs = omega (arith, c.before.before.before.loop.invariant.small)
+one-if-requires : tie.Need-one_if-reads-requires invariant-loop decreases-loop
+one-if-requires c κs = omega (arith, c.loop-h.invariant.small)
 
-add-h : tie.Need-overflow-add-h invariant-loop decreases-loop
+add-h : tie.Need-overflow_add-h invariant-loop decreases-loop
 add-h c = search rules
 
-loop-less : tie.Need-loop-smaller invariant-loop decreases-loop
+loop-less : tie.Need-loop-h-smaller invariant-loop decreases-loop
 loop-less c = search rules
 
-loop-again : tie.Need-loop-preserved invariant-loop decreases-loop
+loop-again : tie.Need-loop-h-preserved invariant-loop decreases-loop
 loop-again c =
-    seen_more _ _ _ _ c.before.before.before.before.loop.invariant (omega (arith, (at-start-from-one-if c).requires.1.0, c.before.before.before.loop-test.true)) _ c.before.before.same-path.ensures c.before.if1.false _ c.one-if.ensures
+    seen_more _ _ _ _ c.loop-h.invariant (omega (arith, (at-start-from-one-if c).requires.1.0, c.loop-h-test.true)) _ c.same_path-same.ensures c.if-same-h.false _ c.one_if-reads.ensures
 
-returns-2 : tie.Need-returns-2 invariant-loop decreases-loop
+returns-2 : tie.Need-returns invariant-loop decreases-loop
 returns-2 c =
-    seen_all _ _ _ _ c.before.loop.invariant (omega (arith, c.before.before.before.before.before.requires.1)) (omega (arith, c.before.before.before.before.before.requires.1.0, c.loop-test.false))
+    seen_all _ _ _ _ c.loop-h.invariant (omega (arith, c.requires.1)) (omega (arith, c.requires.1.0, c.loop-h-test.false))
 
-pub first-reads-spec : {M : Type 1} → statement M
-first-reads-spec = tie.close (tie.spec invariant-loop decreases-loop loop-holds same-path-requires returns one-if-requires add-h loop-less loop-again returns-2)
+pub first_reads_spec : {M : Type 1} → statement M
+first_reads_spec = tie.close (tie.spec
+    invariant-loop
+    decreases-loop
+    loop-holds
+    same-path-requires
+    returns
+    one-if-requires
+    add-h
+    loop-less
+    loop-again
+    returns-2)

@@ -5,14 +5,17 @@ use Rattle.sheet_picks.proofs.Sheets.{given_none, given_some}
 use Rattle.sheet_picks.proofs.sheet.given_or.Statement.{statement}
 use Rattle.sheet_picks.proofs.sheet.given_or.Tie as tie
 
-returns : tie.Need-returns
-returns c = given_none c.before.args.none c.before.args.row.now c.if1.true
+returns : tie.Need-returns-then-row-eq0
+returns c = given_none c.args.none c.args.row.now c.if-row-eq0.true
 
-shared-slice-read-result : tie.Need-shared-slice-read-result
+shared-slice-read-result : tie.Need-bounds-row-0
 shared-slice-read-result c = search rules
 
-returns-2 : tie.Need-returns-2
-returns-2 c = given_some c.before.before.args.none c.before.before.args.row.now c.before.if1.false
+returns-2 : tie.Need-returns
+returns-2 c = given_some c.args.none c.args.row.now c.if-row-eq0.false
 
-pub given-or-spec : {M : Type 1} → statement M
-given-or-spec = tie.close (tie.spec returns shared-slice-read-result returns-2)
+pub given_or_spec : {M : Type 1} → statement M
+given_or_spec = tie.close (tie.spec
+    returns
+    shared-slice-read-result
+    returns-2)
