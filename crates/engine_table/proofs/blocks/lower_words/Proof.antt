@@ -1,5 +1,5 @@
 use Rattle.engine_table.proofs.Sizes.{wait_first, wait_next, one_on, nearer, sum_first}
-use borrow.Author.Rules.{rules, zero≤}
+use borrow.Author.Rules.{rules}
 use mathlib.Core.Path.{◌≡◌}
 use Prim.Native.Nat.{◌+◌, ◌-◌, ◌*◌, ◌≤◌, ◌<◌, ◌^◌}
 use native.Mathlib.Omega.{arith}
@@ -47,7 +47,7 @@ sum_fits i =
     lt_of_le_of_lt (le_of_eq (sum_here _ _ _ _ _ _ _ z.requires _ _ _ l.loop-s.invariant.2 l.loop-s.invariant.1 i.loop-s-test.true)) (z.requires.fits l.loop-s.s i.loop-s-test.true)
 
 loop-holds : tie.Need-loop-s-init invariant-loop decreases-loop
-loop-holds c = (zero≤, wait_first _ _, written_none _ _ _)
+loop-holds c = (omega arith, wait_first _ _, written_none _ _ _)
 
 add-lower-of : tie.Need-overflow_add-cell invariant-loop decreases-loop
 add-lower-of c = place_inside_fits _ _ (cell_in c) (room_small c)

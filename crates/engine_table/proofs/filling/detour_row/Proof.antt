@@ -25,7 +25,7 @@ add-trip-of c =
 trip-of-requires : tie.Need-trip_of-slope-requires
 trip-of-requires c κs =
     let z = at-start-from-slice-known c in
-    trip_fits _ _ _ _ _ _ z.requires.0.judged _ _ z.requires.1.0.up_to_lem z.requires.0.inside
+    trip_fits _ _ _ _ _ _ z.requires.0.judged _ _ z.requires.1.0.up_to z.requires.0.inside
 
 mul-base : tie.Need-overflow_mul-base
 mul-base c =
@@ -40,7 +40,7 @@ add-early-of c =
 early-of-requires : tie.Need-early_of-requires
 early-of-requires c κs =
     let z = at-start-from-slice-known c.before in
-    early_fits _ _ _ _ _ _ z.requires.0.judged _ _ z.requires.1.0.up_to_lem z.requires.0.inside
+    early_fits _ _ _ _ _ _ z.requires.0.judged _ _ z.requires.1.0.up_to z.requires.0.inside
 
 add-base : tie.Need-overflow_add-base
 add-base c =
@@ -50,7 +50,7 @@ add-base c =
 row-requires : tie.Need-row-requires
 row-requires c κs =
     let z = at-start c in
-    inner_row_fits _ _ _ _ _ _ z.requires.0.judged _ _ z.requires.1.0.up_to_lem z.requires.0.inside
+    inner_row_fits _ _ _ _ _ _ z.requires.0.judged _ _ z.requires.1.0.up_to z.requires.0.inside
 
 add-inner : tie.Need-overflow_add-inner
 add-inner c =
@@ -70,7 +70,7 @@ shared-slice-read-inner c =
 add-inner-2 : tie.Need-overflow_add-inner-2
 add-inner-2 c =
     let z = at-start c.before.before in
-    inner_fits _ _ _ _ _ _ z.requires.0.judged _ _ _ z.requires.1.0.up_to_lem z.requires.0.inside c.row.ensures
+    inner_fits _ _ _ _ _ _ z.requires.0.judged _ _ _ z.requires.1.0.up_to z.requires.0.inside c.row.ensures
 
 add_row : tie.Need-overflow_add-b-3
 add_row c =
@@ -90,7 +90,7 @@ sub_row c =
 row-requires-3 : tie.Need-row-requires-3
 row-requires-3 c κs =
     let z = at-start c.before.before.before.before in
-    row_fits _ _ _ _ _ _ z.requires.0.judged _ _ (left_of_lem _ _ _ z.requires.0.window z.requires.0.inside) (back_from _ _ _ z.requires.1.0.up_to_lem z.requires.0.inside)
+    row_fits _ _ _ _ _ _ z.requires.0.judged _ _ (left_of_lem _ _ _ z.requires.0.window z.requires.0.inside) (back_from _ _ _ z.requires.1.0.up_to z.requires.0.inside)
 
 lower-row-requires : tie.Need-lower_row-requires
 lower-row-requires c κs =

@@ -38,7 +38,7 @@ clear-requires c κs =
 
 shared-slice-read-left : tie.Need-bounds-counts-0 invariant-loop decreases-loop
 shared-slice-read-left c =
-    let z = at-start c in
+    let z = at-start-from-clear-arg c.before.before.before.before in
     counted _ _ _ _ _ _ z.requires.0 _ z.requires.1.0
 
 loop-holds : tie.Need-loop-b-init invariant-loop decreases-loop

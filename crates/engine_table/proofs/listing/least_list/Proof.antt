@@ -26,8 +26,8 @@ entry p = at-start p.before.before
 abbrev pulls : tie.After-fill-arg-1 → tie.After-pulled_starts-lefts
 pulls c = c.before.before.before.before
 
-abbrev at_fill : tie.After-read-off-arg3 → tie.After-fill
-at_fill c = c.before.before.before.before.before.before.before
+abbrev at_fill : tie.After-read_off-arg-2-1 → tie.After-fill
+at_fill c = c.before.before.before.before.before.before
 
 returns : tie.Need-returns-then-numbers-eq0
 returns c =
@@ -63,7 +63,7 @@ fill-requires c κs =
     )
 
 array-share-prefix-lefts-2 : tie.Need-slice_bounds-lefts-end-2
-array-share-prefix-lefts-2 c = (pulls c.before.before.before).pulled_starts-lefts.ensures.long
+array-share-prefix-lefts-2 c = c.pulled_starts-lefts.ensures.long
 
 slice-aggregate-read-off : tie.Need-slice_bounds-read_off-end
 slice-aggregate-read-off c = sym (length-take-le _ _ (array-share-prefix-lefts-2 c.before))
@@ -88,12 +88,12 @@ same-length-2 : tie.Need-shape_of-tos
 same-length-2 c = c.read_off.auto.tos
 
 same-length-3 : tie.Need-shape_of-room
-same-length-3 c = (at_fill c.before.before.before.before.before).fill.auto.room
+same-length-3 c = c.fill.auto.room
 
 returns-2 : tie.Need-returns
 returns-2 c =
     let r = c in
-    let f = at_fill r.before in
+    let f = at_fill r.before.before.before.before.before in
     let p = pulls f.before in
     let z = entry p in
     let lefts = p.pulled_starts-lefts.ensures in

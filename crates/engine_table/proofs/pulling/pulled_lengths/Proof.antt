@@ -6,7 +6,7 @@ use native.Mathlib.Omega.{arith}
 use native.Mathlib.Nat.{lt_of_lt_of_le}
 use lib.ListN.{length}
 use Rattle.engine_table.proofs.Sizes.{stop_bytes, stop_next_fits, in_both, one_on, nearer}
-use borrow.Author.Rules.{rules, zero≤}
+use borrow.Author.Rules.{rules}
 use Rattle.engine_table.specs.Private.{FirstHold, met_length}
 use Rattle.engine_table.proofs.MetRows.{first_none, first_more, first_all, no_larger}
 use Rattle.engine_table.proofs.pulling.pulled_lengths.Statement.{statement}
@@ -26,7 +26,7 @@ abbrev turns : tie.After-smaller invariant-loop decreases-loop → tie.In-loop-i
 turns c = c.before.before.before
 
 loop-holds : tie.Need-loop-i-init invariant-loop decreases-loop
-loop-holds c = (zero≤, search rules, first_none _ _)
+loop-holds c = (omega arith, search rules, first_none _ _)
 
 mul-start : tie.Need-offset_bounds-starts-i invariant-loop decreases-loop
 mul-start c = stop_bytes _ _ c.loop-i-test.true (at-start c).requires.0

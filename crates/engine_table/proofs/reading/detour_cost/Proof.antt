@@ -22,7 +22,7 @@ add-trip-of c =
 trip-of-requires : tie.Need-trip_of-slope-requires
 trip-of-requires c κs =
     let z = at-start-from-shared-slice-known5 c in
-    trip_fits _ _ _ _ _ _ z.requires.0.filled.judged _ _ z.requires.1.up_to_lem z.requires.0.inside
+    trip_fits _ _ _ _ _ _ z.requires.0.filled.judged _ _ z.requires.1.up_to z.requires.0.inside
 
 mul-base : tie.Need-overflow_mul-base
 mul-base c =
@@ -37,7 +37,7 @@ add-early-of c =
 early-of-requires : tie.Need-early_of-requires
 early-of-requires c κs =
     let z = at-start-from-shared-slice-known5 c.before in
-    early_fits _ _ _ _ _ _ z.requires.0.filled.judged _ _ z.requires.1.up_to_lem z.requires.0.inside
+    early_fits _ _ _ _ _ _ z.requires.0.filled.judged _ _ z.requires.1.up_to z.requires.0.inside
 
 add-base : tie.Need-overflow_add-base
 add-base c =
@@ -47,7 +47,7 @@ add-base c =
 row-requires : tie.Need-row-requires
 row-requires c κs =
     let z = at-start c in
-    inner_row_fits _ _ _ _ _ _ z.requires.0.filled.judged _ _ z.requires.1.up_to_lem z.requires.0.inside
+    inner_row_fits _ _ _ _ _ _ z.requires.0.filled.judged _ _ z.requires.1.up_to z.requires.0.inside
 
 add-inner : tie.Need-overflow_add-inner
 add-inner c =
@@ -67,12 +67,12 @@ shared-slice-read-inner c =
 add-inner-2 : tie.Need-overflow_add-inner-2
 add-inner-2 c =
     let z = at-start c.before.before in
-    inner_fits _ _ _ _ _ _ z.requires.0.filled.judged _ _ _ z.requires.1.up_to_lem z.requires.0.inside c.row.ensures
+    inner_fits _ _ _ _ _ _ z.requires.0.filled.judged _ _ _ z.requires.1.up_to z.requires.0.inside c.row.ensures
 
 add-inner-3 : tie.Need-overflow_add-inner-3
 add-inner-3 c =
     let z = at-start c.before.before in
-    inner_skip_fits _ _ _ _ _ _ z.requires.0.filled.judged _ _ _ z.requires.1.up_to_lem z.requires.0.inside c.row.ensures _ _ z.requires.0.span
+    inner_skip_fits _ _ _ _ _ _ z.requires.0.filled.judged _ _ _ z.requires.1.up_to z.requires.0.inside c.row.ensures _ _ z.requires.0.span
 
 sub_row : tie.Need-overflow_sub-c
 sub_row c =
@@ -82,12 +82,12 @@ sub_row c =
 row-requires-2 : tie.Need-row-requires-2
 row-requires-2 c κs =
     let z = at-start c.before.before in
-    row_fits _ _ _ _ _ _ z.requires.0.filled.judged _ _ (left_of_lem _ _ _ z.requires.0.window z.requires.0.inside) (back_from _ _ _ z.requires.1.up_to_lem z.requires.0.inside)
+    row_fits _ _ _ _ _ _ z.requires.0.filled.judged _ _ (left_of_lem _ _ _ z.requires.0.window z.requires.0.inside) (back_from _ _ _ z.requires.1.up_to z.requires.0.inside)
 
 add-rest : tie.Need-overflow_add-rest
 add-rest c =
     let z = at-start c.before.before.before in
-    word_fits _ _ _ _ _ _ z.requires.0.filled.judged _ _ _ (left_of_lem _ _ _ z.requires.0.window z.requires.0.inside) (back_from _ _ _ z.requires.1.up_to_lem z.requires.0.inside) c.row-2.ensures _ _ z.requires.0.span
+    word_fits _ _ _ _ _ _ z.requires.0.filled.judged _ _ _ (left_of_lem _ _ _ z.requires.0.window z.requires.0.inside) (back_from _ _ _ z.requires.1.up_to z.requires.0.inside) c.row-2.ensures _ _ z.requires.0.span
 
 mul-result : tie.Need-overflow_mul-result
 mul-result c =
@@ -104,7 +104,7 @@ add-result c =
 mul-result-2 : tie.Need-offset_bounds-room-inner
 mul-result-2 c =
     let z = at-start c.before.before.before in
-    inner_skip_bytes _ _ _ _ _ _ z.requires.0.filled.judged _ _ _ z.requires.1.up_to_lem z.requires.0.inside c.row.ensures _ _ z.requires.0.span
+    inner_skip_bytes _ _ _ _ _ _ z.requires.0.filled.judged _ _ _ z.requires.1.up_to z.requires.0.inside c.row.ensures _ _ z.requires.0.span
 
 shared-slice-read-result : tie.Need-bounds-room-inner
 shared-slice-read-result c =
@@ -123,7 +123,7 @@ add-result-2 c =
 mul-result-3 : tie.Need-offset_bounds-room-rest
 mul-result-3 c =
     let z = at-start c.before.before.before.before in
-    word_bytes _ _ _ _ _ _ z.requires.0.filled.judged _ _ _ (left_of_lem _ _ _ z.requires.0.window z.requires.0.inside) (back_from _ _ _ z.requires.1.up_to_lem z.requires.0.inside) c.row-2.ensures _ _ z.requires.0.span
+    word_bytes _ _ _ _ _ _ z.requires.0.filled.judged _ _ _ (left_of_lem _ _ _ z.requires.0.window z.requires.0.inside) (back_from _ _ _ z.requires.1.up_to z.requires.0.inside) c.row-2.ensures _ _ z.requires.0.span
 
 shared-slice-read-result-2 : tie.Need-bounds-room-rest
 shared-slice-read-result-2 c =

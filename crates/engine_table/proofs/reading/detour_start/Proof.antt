@@ -21,9 +21,6 @@ at-start-from-shared-slice-known5 c = c.before.before.before.before.before
 abbrev at-start : tie.At-loop-c invariant-loop decreases-loop → tie.Start invariant-loop decreases-loop
 at-start c = at-start-from-shared-slice-known5 c.before.before
 
-abbrev at-loop : tie.After-shared_slice_known-in-loop-c-1 invariant-loop decreases-loop → tie.At-loop-c invariant-loop decreases-loop
-at-loop c = c.before.before.before.before
-
 add-c : tie.Need-overflow_add-c invariant-loop decreases-loop
 add-c c =
     let z = at-start-from-shared-slice-known5 c in
@@ -72,13 +69,13 @@ mul-w c =
 
 shared-slice-read-w : tie.Need-bounds-counts-c invariant-loop decreases-loop
 shared-slice-read-w c =
-    let al = at-loop c in
+    let al = c.before.before.before.before in
     let z = at-start al in
     omega (arith, even_counts _ _ _ _ _ _ z.requires.0.filled.judged, al.loop-c.invariant, z.requires.0.inside)
 
 sub-w : tie.Need-overflow_sub-w invariant-loop decreases-loop
 sub-w c =
-    let al = at-loop c in
+    let al = c.before.before.before.before in
     let z = at-start al in
     count_before _ _ _ _ _ _ _ _ _ _ z.requires.0 _ _ al.loop-c.invariant
 
@@ -87,7 +84,7 @@ loop-less c = search rules
 
 loop-again : tie.Need-loop-c-preserved invariant-loop decreases-loop
 loop-again c =
-    let al = at-loop c in
+    let al = c.before.before.before.before in
     let z = at-start al in
     start_on _ _ _ _ _ _ _ _ _ _ z.requires.0 _ _ al.loop-c.invariant c.loop-c-test.true
     (λ e. c.if-detour_cost-least.false (c.detour_cost.ensures ∙ e ∙ sym z.requires.1.0))
