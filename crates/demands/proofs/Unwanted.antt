@@ -387,7 +387,7 @@ pub unwanted_plans : UnwantedPlans
 unwanted_plans old more less before answer answer' after after' out order p q =
     let same = verdict_01 old more less out order before in
     plans_same old more less out order before answer answer' after after' (plan_verdict more before) (plan_verdict less before) same p.refused q.refused
-    (λ e. planned_01 old more less out order before answer answer' after after' (planned.verdict-accepts-run less before e) (p.planned (ap refuses same ∙ e)) (q.planned e))
+    (λ e. planned_01 old more less out order before answer answer' after after' (planned.verdict_accepts_run less before e) (p.planned (ap refuses same ∙ e)) (q.planned e))
 
 pub unwanted_plans_any : UnwantedPlansAny
 unwanted_plans_any old more less before answer answer' after after' out order p q =

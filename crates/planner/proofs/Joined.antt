@@ -26,7 +26,7 @@ few_lifted r e = few_stops r (rw (judge_any_lem r) e)
 
 module _ (r : Run) (j : Joined) (after : JoinRows) (j-is : j ≡ join_answer (lifted r) (fresh_rows 64)) (after_is : after ≡ join_rows_of (lifted r) (fresh_rows 64)) where
   pub join_verdict_lem : j.verdict ≡ judge_any_of r
-  join_verdict_lem = held.join-verdict (lifted r) 64 (few_lifted r) j after j-is after_is ∙ sym (judge_any_lem r)
+  join_verdict_lem = held.join_verdict_lem (lifted r) 64 (few_lifted r) j after j-is after_is ∙ sym (judge_any_lem r)
 
   module _ (accepts : refuses (judge_any_of r) ≡ false) where
     pub join_front : Front j.stops after (stops_of r)

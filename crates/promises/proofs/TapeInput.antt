@@ -157,7 +157,7 @@ input_whole input s e =
 other_frame : (input : List ℕ) → Stands tape_key Name input 0 → ((name label index : List ℕ) → is_name name ≡ true → input ≡ input_text name label index → ⊥) → bad_frame input (behind line_feed input) ≡ true
 other_frame input s n =
     ⊎_elim (λ (e : is_framed (behind line_feed input) ≡ true). absurd (n s.value (framed_label (behind line_feed input)) (framed_index (behind line_feed input)) s.kind (input_whole input s e)))
-    (λ (e : is_framed (behind line_feed input) ≡ false). rw e (mathlib.Core.Bool.or_true (ltb most_tape_input (length input))))
+    (λ (e : is_framed (behind line_feed input) ≡ false). rw e (mathlib.Core.Bool.or-true (ltb most_tape_input (length input))))
     (true_or_false (is_framed (behind line_feed input)))
 
 pub other_tapes_refused : OtherTapesRefused

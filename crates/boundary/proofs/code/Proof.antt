@@ -9,14 +9,18 @@ use Rattle.boundary.proofs.code.Tie as tie
 number-requires : tie.Need-number-requires
 number-requires c κs = search rules
 
-mul-result : tie.Need-overflow-mul-result
+mul-result : tie.Need-overflow_mul-result
 mul-result c = search rules
 
-add-result : tie.Need-overflow-add-result
-add-result c = omega (arith, c.before.number.ensures, number_small c.before.before.args.a.refusal, c.before.before.requires)
+add-result : tie.Need-overflow_add-result
+add-result c = omega (arith, c.number.ensures, number_small c.args.a.refusal, c.requires)
 
 returns : tie.Need-returns
 returns c = search rules
 
-pub code-spec : {M : Type 1} → statement M
-code-spec = tie.close (tie.spec number-requires mul-result add-result returns)
+pub code_spec : {M : Type 1} → statement M
+code_spec = tie.close (tie.spec
+    number-requires
+    mul-result
+    add-result
+    returns)

@@ -7,13 +7,13 @@ use Rattle.boundary.proofs.refused_code.Statement.{statement}
 use Rattle.boundary.proofs.refused_code.Tie as tie
 
 -- The run that was handed in.
-abbrev start : tie.After-judge → tie.Start
+abbrev start : tie.After-judge-run → tie.Start
 start j = j.before.before.before.before.before.before
 
-abbrev run : tie.After-judge → Run
+abbrev run : tie.After-judge-run → Run
 run j = let a = (start j).args in run_of a.starts.now a.lengths.now a.aggregates.now a.numbers.now a.counts.now a.head a.turn
 
-judge-requires : tie.Need-judge-requires
+judge-requires : tie.Need-judge-run-requires
 judge-requires c κs = search rules
 
 refused-requires : tie.Need-refused-requires
@@ -24,22 +24,28 @@ refuse-requires c κs = search rules
 
 code-requires : tie.Need-code-requires
 code-requires c κs =
-    let f = c.before.before in
-    let j = f.before in
-    run_placed (run j) (start j).args.number _ _ j.judge.ensures f.refused.ensures _ c.refuse.ensures
+    let f = c in
+    let j = f in
+    run_placed (run j.before.before.before) (start j.before.before.before).args.number _ _ j.judge-run.ensures f.refused.ensures _ c.refuse.ensures
 
-returns : tie.Need-returns
+returns : tie.Need-returns-then-refused
 returns c =
-    let t = c.before.before in
-    let j = t.before.before in
-    run_code (run j) (start j).args.number _ _ j.judge.ensures t.before.refused.ensures t.if1.true _ c.before.refuse.ensures _ c.code.ensures
+    let t = c in
+    let j = t in
+    run_code (run j.before.before.before.before) (start j.before.before.before.before).args.number _ _ j.judge-run.ensures t.refused.ensures t.if-refused.true _ c.refuse.ensures _ c.code.ensures
 
-returns-2 : tie.Need-returns-2
+returns-2 : tie.Need-returns
 returns-2 c =
-    let j = c.before.before in
-    own_number_lem (run j) (start j).args.number _ _ j.judge.ensures c.before.refused.ensures c.if1.false
+    let j = c in
+    own_number_lem (run j.before.before) (start j.before.before).args.number _ _ j.judge-run.ensures c.refused.ensures c.if-refused.false
 
-pub refused-code-spec : {M : Type 1} → statement M
-refused-code-spec =
+pub refused_code_spec : {M : Type 1} → statement M
+refused_code_spec =
     tie.close
-    (tie.spec judge-requires refused-requires refuse-requires code-requires returns returns-2)
+    (tie.spec
+    judge-requires
+    refused-requires
+    refuse-requires
+    code-requires
+    returns
+    returns-2)

@@ -18,86 +18,86 @@ run s = let a = s.args in run_of a.starts.now a.lengths.now a.aggregates.now a.n
 abbrev rows : tie.Start → ReadRows
 rows s = read_rows s.args.times.now s.args.legs.now
 
-short-price-requires : tie.Need-short-price-requires
+short-price-requires : tie.Need-short_price-requires
 short-price-requires c κs = search rules
 
 -- The rows that the pricer left.
-abbrev after : tie.After-price → ReadRows
-after p = let l = p.price.new.1.1.1.1.1.1.1.1.1 in read_rows l.0 l.1.0
+abbrev after : tie.After-price-a → ReadRows
+after p = let l = p.price-a.new.1.1.1.1.1.1.1.1.1 in read_rows l.0 l.1.0
 
 -- The way back from a place in the code to the one that the name says.
-abbrev at-start : tie.After-slice-known3 → tie.Start
+abbrev at-start : tie.After-slice_known-3-1 → tie.Start
 at-start c = c.before.before.before.before.before.before.before.before.before.before
 
-abbrev at_price : tie.After-code → tie.After-price
+abbrev at_price : tie.After-code-price → tie.After-price-a
 at_price c = c.before.before.before.before.before
 
-returns : tie.Need-returns
+returns : tie.Need-returns-then-sums-lt4
 returns c =
     let s = at-start c.before.before in
     record {
-      says = c.short-price.ensures (rows s) s.args.sums.now c.before.if1.true;
-      reads_are = short_reads (run s) s.args.detour-starts.now s.args.detour-ends.now (rows s) s.args.sums.now c.before.if1.true;
-      sums_are = short_sums_lem (run s) s.args.detour-starts.now s.args.detour-ends.now (rows s) s.args.sums.now c.before.if1.true;
+      says = c.short_price.ensures (rows s) s.args.sums.now c.if-sums-lt4.true;
+      reads_are = short_reads (run s) s.args.detour_starts.now s.args.detour_ends.now (rows s) s.args.sums.now c.if-sums-lt4.true;
+      sums_are = short_sums_lem (run s) s.args.detour_starts.now s.args.detour_ends.now (rows s) s.args.sums.now c.if-sums-lt4.true;
     }
 
-price-requires : tie.Need-price-requires
+price-requires : tie.Need-price-a-requires
 price-requires c κs = search rules
 
-code-requires : tie.Need-code-requires
-code-requires c κs = price_placed _ _ _ _ _ c.before.before.before.before.price.ensures.0
+code-requires : tie.Need-code-price-requires
+code-requires c κs = price_placed _ _ _ _ _ c.price-a.ensures.0
 
-same_length : tie.Need-same-length
-same_length c = (at_price c.before).price.auto.1.1.1.1.1.1.1.1.1.0
+same_length : tie.Need-shape_of-times-then-price-ne0
+same_length c = (at_price c.before).price-a.auto.times
 
-returns-2 : tie.Need-returns-2
+returns-2 : tie.Need-returns-then-price-ne0
 returns-2 c =
     let p = at_price c.before in
-    let e = p.before.before.before in
-    let s = at-start e.before in
-    let is = c.before.code.ensures ∙ price_code (run s) s.args.detour-starts.now s.args.detour-ends.now (rows s) _ p.price.ensures.0 in
+    let e = p in
+    let s = at-start e.before.before.before.before in
+    let is = c.code-price.ensures ∙ price_code (run s) s.args.detour_starts.now s.args.detour_ends.now (rows s) _ p.price-a.ensures.0 in
     record {
-      says = is ∙ sym (ap code_of (call_is_price (run s) s.args.detour-starts.now s.args.detour-ends.now (rows s) s.args.sums.now e.if1.left));
-      reads_are = call_reads (run s) s.args.detour-starts.now s.args.detour-ends.now (rows s) s.args.sums.now (after p) e.if1.left p.price.ensures.1;
+      says = is ∙ sym (ap code_of (call_is_price (run s) s.args.detour_starts.now s.args.detour_ends.now (rows s) s.args.sums.now e.if-sums-lt4.false));
+      reads_are = call_reads (run s) s.args.detour_starts.now s.args.detour_ends.now (rows s) s.args.sums.now (after p) e.if-sums-lt4.false p.price-a.ensures.1;
       sums_are =
-          call_sums_kept (run s) s.args.detour-starts.now s.args.detour-ends.now (rows s) s.args.sums.now e.if1.left
-          (code_refuses _ (λ z. c.if2.true (is ∙ z)) (price_accepted (run s) s.args.detour-starts.now s.args.detour-ends.now (rows s)));
+          call_sums_kept (run s) s.args.detour_starts.now s.args.detour_ends.now (rows s) s.args.sums.now e.if-sums-lt4.false
+          (code_refuses _ (λ z. c.if-price-ne0.true (is ∙ z)) (price_accepted (run s) s.args.detour_starts.now s.args.detour_ends.now (rows s)));
     }
 
-fill-sums-requires : tie.Need-fill-sums-requires
+fill-sums-requires : tie.Need-fill_sums-requires
 fill-sums-requires c κs = search rules
 
-same-length-2 : tie.Need-same-length-2
-same-length-2 c = (at_price c.before).price.auto.1.1.1.1.1.1.1.1.1.1.0
+same-length-2 : tie.Need-shape_of-legs-then-price-ne0
+same-length-2 c = (at_price c.before).price-a.auto.legs
 
-same-length-3 : tie.Need-same-length-3
-same-length-3 c = (at_price c.before.before.before.before.before).price.auto.1.1.1.1.1.1.1.1.1.0
+same-length-3 : tie.Need-shape_of-times
+same-length-3 c = (at_price c.before.before.before.before.before).price-a.auto.times
 
-same-length-4 : tie.Need-same-length-4
-same-length-4 c = (at_price c.before.before.before.before.before).price.auto.1.1.1.1.1.1.1.1.1.1.0
+same-length-4 : tie.Need-shape_of-legs
+same-length-4 c = (at_price c.before.before.before.before.before).price-a.auto.legs
 
-same-length-5 : tie.Need-same-length-5
-same-length-5 c = c.before.before.fill-sums.auto.1.0
+same-length-5 : tie.Need-shape_of-sums
+same-length-5 c = c.fill_sums.auto.sums
 
-returns-3 : tie.Need-returns-3
+returns-3 : tie.Need-returns
 returns-3 c =
-    let fs = c.before.before in
-    let d = fs.before.before in
-    let p = at_price d.before in
-    let e = p.before.before.before in
-    let s = at-start e.before in
-    let is = d.before.code.ensures ∙ price_code (run s) s.args.detour-starts.now s.args.detour-ends.now (rows s) _ p.price.ensures.0 in
-    let none = sym is ∙ d.if2.false in
+    let fs = c in
+    let d = fs in
+    let p = at_price d.before.before.before.before.before in
+    let e = p in
+    let s = at-start e.before.before.before.before in
+    let is = d.code-price.ensures ∙ price_code (run s) s.args.detour_starts.now s.args.detour_ends.now (rows s) _ p.price-a.ensures.0 in
+    let none = sym is ∙ d.if-price-ne0.false in
     record {
-      says = is ∙ sym (ap code_of (call_is_price (run s) s.args.detour-starts.now s.args.detour-ends.now (rows s) s.args.sums.now e.if1.left));
-      reads_are = call_reads (run s) s.args.detour-starts.now s.args.detour-ends.now (rows s) s.args.sums.now (after p) e.if1.left p.price.ensures.1;
+      says = is ∙ sym (ap code_of (call_is_price (run s) s.args.detour_starts.now s.args.detour_ends.now (rows s) s.args.sums.now e.if-sums-lt4.false));
+      reads_are = call_reads (run s) s.args.detour_starts.now s.args.detour_ends.now (rows s) s.args.sums.now (after p) e.if-sums-lt4.false p.price-a.ensures.1;
       sums_are =
-          call_sums_filled (run s) s.args.detour-starts.now s.args.detour-ends.now (rows s) s.args.sums.now _ _ e.if1.left
-          (code_accepts (price_verdict (run s) s.args.detour-starts.now s.args.detour-ends.now (rows s)) none) p.price.ensures.0 fs.fill-sums.ensures;
+          call_sums_filled (run s) s.args.detour_starts.now s.args.detour_ends.now (rows s) s.args.sums.now _ _ e.if-sums-lt4.false
+          (code_accepts (price_verdict (run s) s.args.detour_starts.now s.args.detour_ends.now (rows s)) none) p.price-a.ensures.0 fs.fill_sums.ensures;
     }
 
-pub violstream-price-spec : {M : Type 1} → statement M
-violstream-price-spec =
+pub violstream_price_spec : {M : Type 1} → statement M
+violstream_price_spec =
     tie.close
     (tie.spec
     short-price-requires

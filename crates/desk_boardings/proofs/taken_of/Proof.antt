@@ -8,16 +8,16 @@ use borrow.Author.Rules.{rules}
 use Rattle.desk_boardings.proofs.taken_of.Statement.{statement}
 use Rattle.desk_boardings.proofs.taken_of.Tie as tie
 
-count-waiting-requires : tie.Need-count-waiting-requires
+count-waiting-requires : tie.Need-count_waiting-ones-requires
 count-waiting-requires c κs = search rules
 
-count-waiting-requires-2 : tie.Need-count-waiting-requires-2
+count-waiting-requires-2 : tie.Need-count_waiting-twos-requires
 count-waiting-requires-2 c κs = search rules
 
-share-of-requires : tie.Need-share-of-requires
+share-of-requires : tie.Need-share_of-requires
 share-of-requires c κs = search rules
 
-share-of-requires-2 : tie.Need-share-of-requires-2
+share-of-requires-2 : tie.Need-share_of-requires-2
 share-of-requires-2 c κs = search rules
 
 made : {a b x y : ℕ} → a ≡ x → b ≡ y → ◌≡◌ {A = Taken} (record { one = a; two = b }) (record { one = x; two = y })
@@ -28,13 +28,13 @@ shares e f = cc
 
 returns : tie.Need-returns
 returns c =
-    let t = c.before.before in
-    let o = t.before.count-waiting.ensures in
-    let w = t.count-waiting2.ensures in
-    made (c.before.share-of.ensures ∙ shares o w) (c.share-of2.ensures ∙ shares w o)
+    let t = c in
+    let o = t.count_waiting-ones.ensures in
+    let w = t.count_waiting-twos.ensures in
+    made (c.share_of.ensures ∙ shares o w) (c.share_of-2.ensures ∙ shares w o)
 
-pub taken-of-spec : {M : Type 1} → statement M
-taken-of-spec =
+pub taken_of_spec : {M : Type 1} → statement M
+taken_of_spec =
     tie.close
     (tie.spec
     count-waiting-requires

@@ -12,53 +12,53 @@ use Rattle.planner.proofs.count_up.Statement.{statement}
 use Rattle.planner.proofs.count_up.Tie as tie
 use Rattle.engine_stops.specs.Private.{count_up}
 
-abbrev invariant-loop : tie.invariant-loop
+abbrev invariant-loop : tie.invariant-loop-i
 invariant-loop row₀ i₀ row i = Filling (count_up 1 (length row₀)) row₀ row i
 
-abbrev decreases-loop : tie.decreases-loop
+abbrev decreases-loop : tie.decreases-loop-i
 decreases-loop row₀ i₀ row i = length row₀ - i
 
-loop-holds : tie.Need-loop-init invariant-loop decreases-loop
+loop-holds : tie.Need-loop-i-init invariant-loop decreases-loop
 loop-holds c = filling_start _ _ (omega (arith, count_length 1 (length c.args.row.now)))
 
-add_row : tie.Need-overflow-add-row invariant-loop decreases-loop
+add_row : tie.Need-overflow_add-row invariant-loop decreases-loop
 add_row c = search rules
 
-mul-row : tie.Need-overflow-mul-row invariant-loop decreases-loop
+mul-row : tie.Need-offset_bounds-row-i invariant-loop decreases-loop
 mul-row c = search rules
 
-slice-write-row : tie.Need-slice-write-row invariant-loop decreases-loop
+slice-write-row : tie.Need-bounds-row-i invariant-loop decreases-loop
 slice-write-row c = search rules
 
-add-i : tie.Need-overflow-add-i invariant-loop decreases-loop
+add-i : tie.Need-overflow_add-i invariant-loop decreases-loop
 add-i c = search rules
 
 -- The entry at hand is one of the row.
-inside : (c : tie.In-loop invariant-loop decreases-loop) → c.before.loop.i < length c.before.before.args.row.now
-inside c = omega (arith, c.loop-test.true, c.before.loop.invariant.same)
+inside : (c : tie.In-loop-i invariant-loop decreases-loop) → c.loop-i.i < length c.args.row.now
+inside c = omega (arith, c.loop-i-test.true, c.loop-i.invariant.same)
 
-loop-less : tie.Need-loop-smaller invariant-loop decreases-loop
+loop-less : tie.Need-loop-i-smaller invariant-loop decreases-loop
 loop-less c = omega (arith, inside c)
 
-loop-again : tie.Need-loop-preserved invariant-loop decreases-loop
+loop-again : tie.Need-loop-i-preserved invariant-loop decreases-loop
 loop-again c =
-    let row₀ = c.before.before.args.row.now in
-    filling_more _ _ _ _ c.before.loop.invariant (omega (arith, inside c, count_length 1 (length row₀))) _
-    (omega (arith, count_at_lem 1 (length row₀) c.before.loop.i (inside c)))
+    let row₀ = c.args.row.now in
+    filling_more _ _ _ _ c.loop-i.invariant (omega (arith, inside c, count_length 1 (length row₀))) _
+    (omega (arith, count_at_lem 1 (length row₀) c.loop-i.i (inside c)))
 
-same_length : tie.Need-same-length invariant-loop decreases-loop
-same_length c = c.before.loop.invariant.same
+same_length : tie.Need-shape_of-row invariant-loop decreases-loop
+same_length c = c.loop-i.invariant.same
 
 returns : tie.Need-returns invariant-loop decreases-loop
 returns c =
-    let row₀ = c.before.before.args.row.now in
+    let row₀ = c.args.row.now in
     let size = count_length 1 (length row₀) in
-    let v = c.before.loop.invariant in
-    filling_all _ _ _ _ v (omega (arith, size, v.same, c.loop-test.false))
+    let v = c.loop-i.invariant in
+    filling_all _ _ _ _ v (omega (arith, size, v.same, c.loop-i-test.false))
     ∙ rw (drop_of_length-le row₀ {i = length (count_up 1 (length row₀))} (omega (arith, size))) (append-nil (count_up 1 (length row₀)))
 
-pub count-up-spec : {M : Type 1} → statement M
-count-up-spec =
+pub count_up_spec : {M : Type 1} → statement M
+count_up_spec =
     tie.close
     (tie.spec
     invariant-loop

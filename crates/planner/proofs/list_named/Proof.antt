@@ -18,36 +18,36 @@ use Rattle.engine_stops.specs.Private.{count_up}
 part_in : (k n m : ℕ) → k ≤ 64 → n ≡ m → m ≡ 64 → k ≤ n
 part_in k n m h e f = omega arith
 
-slice-aggregate-count-up : tie.Need-slice-aggregate-count-up
+slice-aggregate-count-up : tie.Need-slice_bounds-count_up-end
 slice-aggregate-count-up c = refl
 
-count-up-requires : tie.Need-count-up-requires
+count-up-requires : tie.Need-count_up-requires
 count-up-requires c κs = tt
 
 -- What was handed in: at most 64 stops, so that so many of the numbers are theirs.
-abbrev start : tie.After-count-up → tie.Start
+abbrev start : tie.After-count_up → tie.Start
 start n = n.before.before.before.before.before.before.before.before.before
 
-few : (n : tie.After-count-up) → length (start n).args.firsts.now ≤ 64
+few : (n : tie.After-count_up) → length (start n).args.firsts.now ≤ 64
 few n = stops_fit _ _ _ _ _ _ _ (start n).requires.holds
 
-array-share-prefix-numbers : tie.Need-array-share-prefix-numbers
-array-share-prefix-numbers c = part_in _ _ _ (few c.before) (ap length c.before.count-up.ensures) (count_length 1 64)
+array-share-prefix-numbers : tie.Need-slice_bounds-numbers-end
+array-share-prefix-numbers c = part_in _ _ _ (few c.before) (ap length c.count_up.ensures) (count_length 1 64)
 
-slice-aggregate-list : tie.Need-slice-aggregate-list
+slice-aggregate-list : tie.Need-slice_bounds-list-end
 slice-aggregate-list c = sym (length-take-le _ _ (array-share-prefix-numbers c.before))
 
-list-requires : tie.Need-list-requires
+list-requires : tie.Need-list-list-requires
 list-requires c κs = tt
 
 refused-requires : tie.Need-refused-requires
 refused-requires c κs = tt
 
 -- The engine's answer, and the numbers that it was lent.
-abbrev engine : tie.After-refused → tie.After-list
+abbrev engine : tie.After-refused → tie.After-list-list
 engine f = f.before.before.before.before.before.before.before.before
 
-abbrev numbering : tie.After-refused → tie.After-count-up
+abbrev numbering : tie.After-refused → tie.After-count_up
 numbering f = (engine f).before.before.before.before.before.before
 
 -- The rows that were handed in, and as the engine leaves them.
@@ -55,70 +55,70 @@ abbrev before : tie.After-refused → ListRows
 before f = let a = (start (numbering f)).args in list_rows a.froms.now a.tos.now a.room.now
 
 abbrev mid : tie.After-refused → ListRows
-mid f = let l = (engine f).list.new.1.1.1.1.1.1 in list_rows l.0 l.1.0 l.1.1.0
+mid f = let l = (engine f).list-list.new in list_rows l.froms l.tos l.room
 
-same_length : tie.Need-same-length
-same_length c = (engine c.before).list.auto.1.1.1.1.1.1.0
+same_length : tie.Need-shape_of-froms-then-refused
+same_length c = (engine c.before).list-list.auto.froms
 
-same-length-2 : tie.Need-same-length-2
-same-length-2 c = (engine c.before).list.auto.1.1.1.1.1.1.1.0
+same-length-2 : tie.Need-shape_of-tos-then-refused
+same-length-2 c = (engine c.before).list-list.auto.tos
 
-same-length-3 : tie.Need-same-length-3
-same-length-3 c = (engine c.before).list.auto.1.1.1.1.1.1.1.1.0
+same-length-3 : tie.Need-shape_of-room-then-refused
+same-length-3 c = (engine c.before).list-list.auto.room
 
-counted : (f : tie.After-refused) → let k = length (start (numbering f)).args.firsts.now in take k (numbering f).count-up.new.0 ≡ count_up 1 k
+counted : (f : tie.After-refused) → let k = length (start (numbering f)).args.firsts.now in take k (numbering f).count_up.new.row ≡ count_up 1 k
 counted f =
     let k = length (start (numbering f)).args.firsts.now in
-    ap (take k) (numbering f).count-up.ensures ∙ count_part 1 64 k (few (numbering f))
+    ap (take k) (numbering f).count_up.ensures ∙ count_part 1 64 k (few (numbering f))
 
-returns : tie.Need-returns
+returns : tie.Need-returns-then-refused
 returns c =
-    let f = c.before in
-    λ r h. named_refused r _ _ _ _ _ _ h (before f) (mid f) _ _ (counted f) (engine f).list.ensures (sym f.refused.ensures ∙ c.if1.true)
+    let f = c in
+    λ r h. named_refused r _ _ _ _ _ _ h (before f.before) (mid f.before) _ _ (counted f.before) (engine f.before).list-list.ensures (sym f.refused.ensures ∙ c.if-refused.true)
 
 -- Where the engine has listed.
-passes : (e : tie.Else1) → refuses (engine e.before).list.result.verdict ≡ false
-passes e = sym e.before.refused.ensures ∙ e.if1.false
+passes : (e : tie.Else-refused) → refuses (engine e.before).list-list.result.verdict ≡ false
+passes e = sym e.refused.ensures ∙ e.if-refused.false
 
-name-files-requires : tie.Need-name-files-requires
+name-files-requires : tie.Need-name_files-requires
 name-files-requires c κs =
-    let e = c.before in
-    let f = e.before in
-    let n = froms_nameable _ _ _ _ _ _ _ (start (numbering f)).requires.holds (before f) (mid f) _ _ (counted f) (engine f).list.ensures (passes e) in
+    let e = c in
+    let f = e in
+    let n = froms_nameable _ _ _ _ _ _ _ (start (numbering f.before.before)).requires.holds (before f.before.before) (mid f.before.before) _ _ (counted f.before.before) (engine f.before.before).list-list.ensures (passes e.before) in
     (omega (arith, n.long), λ i b. n.each i (omega (arith, b)))
 
-name-files-requires-2 : tie.Need-name-files-requires-2
+name-files-requires-2 : tie.Need-name_files-requires-2
 name-files-requires-2 c κs =
-    let e = c.before.before.before.before.before in
-    let f = e.before in
-    let n = tos_nameable _ _ _ _ _ _ _ (start (numbering f)).requires.holds (before f) (mid f) _ _ (counted f) (engine f).list.ensures (passes e) in
+    let e = c in
+    let f = e in
+    let n = tos_nameable _ _ _ _ _ _ _ (start (numbering f.before.before.before.before.before.before)).requires.holds (before f.before.before.before.before.before.before) (mid f.before.before.before.before.before.before) _ _ (counted f.before.before.before.before.before.before) (engine f.before.before.before.before.before.before).list-list.ensures (passes e.before.before.before.before.before) in
     (omega (arith, n.long), λ i b. n.each i (omega (arith, b)))
 
-same-length-4 : tie.Need-same-length-4
+same-length-4 : tie.Need-shape_of-froms
 same-length-4 c =
-    let froms = c.before.before.before.before.before.before in
-    froms.name-files.auto.1.0 ∙ (engine froms.before.before.before).list.auto.1.1.1.1.1.1.0
+    let froms = c in
+    froms.name_files.auto.row ∙ (engine froms.before.before.before.before.before.before.before.before.before).list-list.auto.froms
 
-same-length-5 : tie.Need-same-length-5
+same-length-5 : tie.Need-shape_of-tos
 same-length-5 c =
-    let froms = c.before.before.before.before.before.before in
-    c.before.before.name-files2.auto.1.0 ∙ (engine froms.before.before.before).list.auto.1.1.1.1.1.1.1.0
+    let froms = c in
+    c.name_files-2.auto.row ∙ (engine froms.before.before.before.before.before.before.before.before.before).list-list.auto.tos
 
-same-length-6 : tie.Need-same-length-6
+same-length-6 : tie.Need-shape_of-room
 same-length-6 c =
-    let froms = c.before.before.before.before.before.before in
-    (engine froms.before.before.before).list.auto.1.1.1.1.1.1.1.1.0
+    let froms = c in
+    (engine froms.before.before.before.before.before.before.before.before.before).list-list.auto.room
 
-returns-2 : tie.Need-returns-2
+returns-2 : tie.Need-returns
 returns-2 c =
-    let tos = c.before.before in
-    let froms = tos.before.before.before.before in
-    let e = froms.before.before in
-    let f = e.before in
-    λ r h. named_listed r _ _ _ _ _ _ h (before f) (mid f) _ _ (counted f) (engine f).list.ensures (passes e) _ _ froms.name-files.ensures tos.name-files2.ensures
+    let tos = c in
+    let froms = tos in
+    let e = froms in
+    let f = e in
+    λ r h. named_listed r _ _ _ _ _ _ h (before f.before.before.before.before.before.before.before.before.before) (mid f.before.before.before.before.before.before.before.before.before) _ _ (counted f.before.before.before.before.before.before.before.before.before) (engine f.before.before.before.before.before.before.before.before.before).list-list.ensures (passes e.before.before.before.before.before.before.before.before) _ _ froms.name_files.ensures tos.name_files-2.ensures
 
-pub list-named-spec : {M : Type 1} → statement M
-list-named-spec =
+pub list_named_spec : {M : Type 1} → statement M
+list_named_spec =
     tie.close
     (tie.spec
     slice-aggregate-count-up

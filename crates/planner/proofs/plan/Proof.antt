@@ -8,7 +8,7 @@ use Rattle.planner.proofs.Same.{run_refused, plan_same}
 use Rattle.planner.proofs.plan.Statement.{statement}
 use Rattle.planner.proofs.plan.Tie as tie
 
-judge-requires : tie.Need-judge-requires
+judge-requires : tie.Need-judge-run-requires
 judge-requires c κs = search rules
 
 refused-requires : tie.Need-refused-requires
@@ -18,10 +18,10 @@ refuse-requires : tie.Need-refuse-requires
 refuse-requires c κs = search rules
 
 -- The run and the rows that were handed in.
-abbrev start : tie.After-judge → tie.Start
+abbrev start : tie.After-judge-run → tie.Start
 start j = j.before.before.before.before.before.before.before.before.before.before.before
 
-abbrev at-plan : tie.After-slice-known10 → tie.After-plan-any
+abbrev at-plan : tie.After-slice_known-10-1 → tie.After-plan_any
 at-plan c = c.before.before.before.before.before.before.before.before.before.before
 
 abbrev run : tie.Start → Run
@@ -30,38 +30,38 @@ run s = let a = s.args in run_of a.starts.now a.lengths.now a.aggregates.now a.n
 abbrev rows : tie.Start → Rows
 rows s = let a = s.args in rows_of a.froms.now a.tos.now a.times.now a.legs.now a.room.now
 
-returns : tie.Need-returns
+returns : tie.Need-returns-then-refused
 returns c =
-    let j = c.before.before.before in
-    run_refused (run (start j)) (rows (start j)) _ _ j.judge.ensures c.before.before.refused.ensures c.before.if1.true _ c.refuse.ensures
+    let j = c in
+    run_refused (run (start j.before.before.before)) (rows (start j.before.before.before)) _ _ j.judge-run.ensures c.refused.ensures c.if-refused.true _ c.refuse.ensures
 
-plan-any-requires : tie.Need-plan-any-requires
+plan-any-requires : tie.Need-plan_any-requires
 plan-any-requires c κs = search rules
 
-same_length : tie.Need-same-length
-same_length c = (at-plan c).plan-any.auto.1.1.1.1.1.1.1.0
+same_length : tie.Need-shape_of-froms
+same_length c = (at-plan c).plan_any.auto.froms
 
-same-length-2 : tie.Need-same-length-2
-same-length-2 c = (at-plan c).plan-any.auto.1.1.1.1.1.1.1.1.0
+same-length-2 : tie.Need-shape_of-tos
+same-length-2 c = (at-plan c).plan_any.auto.tos
 
-same-length-3 : tie.Need-same-length-3
-same-length-3 c = (at-plan c).plan-any.auto.1.1.1.1.1.1.1.1.1.0
+same-length-3 : tie.Need-shape_of-times
+same-length-3 c = (at-plan c).plan_any.auto.times
 
-same-length-4 : tie.Need-same-length-4
-same-length-4 c = (at-plan c).plan-any.auto.1.1.1.1.1.1.1.1.1.1.0
+same-length-4 : tie.Need-shape_of-legs
+same-length-4 c = (at-plan c).plan_any.auto.legs
 
-same-length-5 : tie.Need-same-length-5
-same-length-5 c = (at-plan c).plan-any.auto.1.1.1.1.1.1.1.1.1.1.1.0
+same-length-5 : tie.Need-shape_of-room
+same-length-5 c = (at-plan c).plan_any.auto.room
 
-returns-2 : tie.Need-returns-2
+returns-2 : tie.Need-returns
 returns-2 c =
     let p = at-plan c in
-    let e = p.before.before.before.before.before.before in
-    let j = e.before.before in
-    plan_same (run (start j)) (rows (start j)) (test_says j.judge.ensures e.before.refused.ensures e.if1.left) _ _ p.plan-any.ensures
+    let e = p in
+    let j = e in
+    plan_same (run (start j.before.before.before.before.before.before.before.before)) (rows (start j.before.before.before.before.before.before.before.before)) (test_says j.judge-run.ensures e.refused.ensures e.if-refused.false) _ _ p.plan_any.ensures
 
-pub plan-spec : {M : Type 1} → statement M
-plan-spec =
+pub plan_spec : {M : Type 1} → statement M
+plan_spec =
     tie.close
     (tie.spec
     judge-requires
