@@ -23,7 +23,7 @@ refused-code-requires c κs = search rules
 
 -- The rows that the planner left.
 abbrev after : tie.After-plan-a → Rows
-after p = let l = p.plan-a.new.1.1.1.1.1.1.1 in rows_of l.0 l.1.0 l.1.1.0 l.1.1.1.0 l.1.1.1.1.0
+after p = let l = p.plan-a.new in rows_of l.froms l.tos l.times l.legs l.room
 
 -- The way back from a place in the code to the one that the name says.
 abbrev at-start : tie.Then-rule-ne-LEAST_RULE → tie.Start

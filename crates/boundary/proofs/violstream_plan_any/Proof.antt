@@ -21,7 +21,7 @@ rows s = let a = s.args in rows_of a.detour_starts.now a.detour_ends.now a.times
 
 -- The rows that the planner left.
 abbrev after : tie.After-plan_any-a → Rows
-after p = let l = p.plan_any-a.new.1.1.1.1.1.1.1 in rows_of l.0 l.1.0 l.1.1.0 l.1.1.1.0 l.1.1.1.1.0
+after p = let l = p.plan_any-a.new in rows_of l.froms l.tos l.times l.legs l.room
 
 -- The way back from a place in the code to the one that the name says.
 abbrev at-start : tie.Then-sums-lt4 → tie.Start

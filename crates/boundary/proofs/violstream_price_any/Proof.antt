@@ -23,7 +23,7 @@ short-price-any-requires c κs = search rules
 
 -- The rows that the pricer left.
 abbrev after : tie.After-price_any-a → ReadRows
-after p = let l = p.price_any-a.new.1.1.1.1.1.1.1.1.1 in read_rows l.0 l.1.0
+after p = let l = p.price_any-a.new in read_rows l.times l.legs
 
 -- The way back from a place in the code to the one that the name says.
 abbrev at-start : tie.After-slice_known-3-1 → tie.Start

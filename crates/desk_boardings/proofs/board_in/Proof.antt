@@ -87,7 +87,7 @@ plan-requires c κs = search rules
 
 -- The rows as the plan leaves them.
 abbrev left : tie.After-plan-answer → Rows
-left p = let l = p.plan-answer.new.1.1.1.1.1.1.1 in rows_of l.0 l.1.0 l.1.1.0 l.1.1.1.0 l.1.1.1.1.0
+left p = let l = p.plan-answer.new in rows_of l.froms l.tos l.times l.legs l.room
 
 -- From the last step back to the plan, and to the two rows of wants.
 abbrev planned : tie.After-slice_known-10-1 → tie.After-plan-answer
