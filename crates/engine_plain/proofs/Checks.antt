@@ -115,7 +115,7 @@ module _ (r : Run) where
   judge_on e = first_passes table (wants ∷ headed ∷ []) e
 
   bad_want_here : ℕ
-  bad_want = first_where (bad_want (length r.starts) r.numbers r.counts) (length r.numbers)
+  bad_want_here = first_where (bad_want (length r.starts) r.numbers r.counts) (length r.numbers)
 
   table_early : refuses table ≡ true → comes_first table.refusal ≡ true
   table_early =

@@ -56,7 +56,7 @@ abbrev rows : tie.After-join-joined → PlainRows
 rows j = let a = (start j).args in plain_rows a.froms.now a.tos.now a.times.now a.legs.now
 
 abbrev after : tie.After-join-joined → JoinRows
-after j = let l = j.join-joined.new.1.1.1.1.1.1.1 in join_rows l.0 l.1.0 l.1.1.0 l.1.1.1.0
+after j = let l = j.join-joined.new in join_rows l.firsts l.lefts l.spans l.reads
 
 abbrev joining : tie.After-refused → tie.After-join-joined
 joining f = f.before.before.before.before.before.before.before
@@ -149,14 +149,14 @@ write-list-requires c κs =
 abbrev second : tie.After-write_list-n → tie.Else-short_rows
 second m = m.before.before.before.before.before.before.before
 
-written : (m : tie.After-write_list-n) → let j = joined (first (second m)) in let l = m.write_list-n.new.1.1.1.1.1 in
-    ListWritten (least_list (run j).turn (stops_of (run j))) 0 m.write_list-n.result (rows j).froms (rows j).tos l.0 l.1.0
+written : (m : tie.After-write_list-n) → let j = joined (first (second m)) in let l = m.write_list-n.new in
+    ListWritten (least_list (run j).turn (stops_of (run j))) 0 m.write_list-n.result (rows j).froms (rows j).tos l.froms l.tos
 written m =
     let e = first (second m) in
     let j = joined e in
     front_written (run j) (run_passed (run j) (passes e)) _ (after j) (front e) _ _ _ _ _ m.write_list-n.ensures
 
-in_rows : (m : tie.After-write_list-n) → let l = m.write_list-n.new.1.1.1.1.1 in (m.write_list-n.result ≤ length l.0) × (m.write_list-n.result ≤ length l.1.0)
+in_rows : (m : tie.After-write_list-n) → let l = m.write_list-n.new in (m.write_list-n.result ≤ length l.froms) × (m.write_list-n.result ≤ length l.tos)
 in_rows m =
     let e = first (second m) in
     let j = joined e in
@@ -170,13 +170,13 @@ slice-reshare-prefix-price : tie.Need-slice_bounds-price-end
 slice-reshare-prefix-price c = omega (arith, (in_rows c.before.before.before.before).0)
 
 slice-aggregate-price : tie.Need-slice_bounds-price-end-2
-slice-aggregate-price c = sym (length-take-le _ _ (slice-reshare-prefix-price c.before))
+slice-aggregate-price c = sym (length-take-le _ _ (slice-reshare-prefix-price c))
 
 slice-reshare-prefix-price-2 : tie.Need-slice_bounds-price-end-3
 slice-reshare-prefix-price-2 c = omega (arith, (in_rows c.before.before.before.before).1)
 
 slice-aggregate-price-2 : tie.Need-slice_bounds-price-end-4
-slice-aggregate-price-2 c = sym (length-take-le _ _ (slice-reshare-prefix-price-2 c.before))
+slice-aggregate-price-2 c = sym (length-take-le _ _ (slice-reshare-prefix-price-2 c))
 
 price-requires : tie.Need-price-requires
 price-requires c κs = search rules

@@ -2,7 +2,6 @@
 -- Assumes nothing.
 use Prim.Native.Nat.{◌≤◌}
 use mathlib.Core.Path.{◌≡◌, sym, ◌∙◌}
-use mathlib.Core.Logic.{⊎_elim}
 use mathlib.Core.List.{[], ◌∷◌}
 use native.Mathlib.Omega.{arith}
 use lib.ListN.{take}
@@ -10,16 +9,24 @@ use lib.Seq.{length-take-le}
 use Rattle.sheet_figures.proofs.Figures.{sign_key, minus_taken, none_taken, whole_size, figure_wrote}
 use borrow.Author.Rules.{rules}
 use Rattle.sheet_figures.proofs.put_figure.Statement.{statement}
+use Rattle.sheet_figures.proofs.put_figure.Lts.{then-figure-lt0, else-figure-lt0}
 use Rattle.sheet_figures.proofs.put_figure.Tie as tie
 
 -- The sign that was chosen.
 sign : (j : tie.Joined-figure-lt0) → take j.if-figure-lt0.sign (44 ∷ 45 ∷ []) ≡ sign_key j.args.figure
 sign j =
     let fits = j.ranges.figure in
-    ⊎_elim (λ w. minus_taken _ fits w.0.taken _ w.1) (λ w. none_taken _ fits w.0.left _ w.1) j.if-figure-lt0.branch
+    elim j.if-figure-lt0.branch [
+      | then-figure-lt0 w ↦ minus_taken _ fits w.if-figure-lt0.true _ w.sign-is
+      | else-figure-lt0 w ↦ none_taken _ fits w.if-figure-lt0.false _ w.sign-is
+    ]
 
 one-or-two : (j : tie.Joined-figure-lt0) → j.if-figure-lt0.sign ≤ 2
-one-or-two j = ⊎_elim (λ w. omega (arith, w.1)) (λ w. omega (arith, w.1)) j.if-figure-lt0.branch
+one-or-two j =
+    elim j.if-figure-lt0.branch [
+      | then-figure-lt0 w ↦ omega (arith, w.sign-is)
+      | else-figure-lt0 w ↦ omega (arith, w.sign-is)
+    ]
 
 put-requires : tie.Need-put-value-requires
 put-requires c κs = search rules
@@ -56,7 +63,7 @@ returns c =
     let pair = size in
     let key = pair in
     let j = chosen size.before.before.before.before.before in
-    figure_wrote _ _ _ _ j.args.figure j.requires _ (sign j) _ (size.type_size.ensures ∙ whole_size _ j.ranges.figure) _ _ key.put-value.ensures _ _ pair.put_pair-comma.ensures _ _ line.put_number_line.ensures
+    figure_wrote _ _ _ _ j.args.figure j.requires _ (sign j) _ (size.size_of.ensures ∙ whole_size _ j.ranges.figure) _ _ key.put-value.ensures _ _ pair.put_pair-comma.ensures _ _ line.put_number_line.ensures
 
 pub put_figure_spec : {M : Type 1} → statement M
 put_figure_spec =

@@ -81,14 +81,14 @@ module _ (e : tie.Else-refused-2) where
   few =
       let name = passed.before.before in
       few_figures start.args.name.now (run start) start.args.froms.now start.args.tos.now start.args.out.now _ _ name.judge_any-run.ensures name.judge_name-named.ensures _
-      passed.before.refused.ensures passed.if1.left (replicate 64 (pos 0)) (omega arith) told.figures_any.result told.figures_any.ensures.0 _ e.refused-2.ensures e.if-refused-2.false
+      passed.before.refused.ensures passed.if-refused.false (replicate 64 (pos 0)) (omega arith) told.figures_any-answer.result told.figures_any-answer.ensures.0 _ e.refused-2.ensures e.if-refused-2.false
 
   last : figure_any_sheet_verdict start.args.name.now (run start) start.args.froms.now start.args.tos.now start.args.out.now
       ≡ row_verdict (figure_any_text start.args.name.now (run start) start.args.froms.now start.args.tos.now) start.args.out.now
   last =
       let name = passed.before.before in
       figures_last start.args.name.now (run start) start.args.froms.now start.args.tos.now start.args.out.now _ _ name.judge_any-run.ensures name.judge_name-named.ensures _
-      passed.before.refused.ensures passed.if1.left (replicate 64 (pos 0)) (omega arith) told.figures_any.result told.figures_any.ensures.0 _ e.refused-2.ensures e.if-refused-2.false
+      passed.before.refused.ensures passed.if-refused.false (replicate 64 (pos 0)) (omega arith) told.figures_any-answer.result told.figures_any-answer.ensures.0 _ e.refused-2.ensures e.if-refused-2.false
 
 slice-aggregate-put-figure-sheet : tie.Need-slice_bounds-put_figure_sheet-end
 slice-aggregate-put-figure-sheet c = search rules
@@ -98,19 +98,19 @@ array-share-prefix-row c = omega (arith, few c.before)
 
 slice-aggregate-put-figure-sheet-2 : tie.Need-slice_bounds-put_figure_sheet-end-2
 slice-aggregate-put-figure-sheet-2 c =
-    let e = c in
+    let e = c.before.before in
     let s = start e in
     let name = (passed e).before.before in
-    figures_count s.args.name.now (run s) s.args.froms.now s.args.tos.now s.args.out.now _ _ name.before.judge_any.ensures name.judge_name.ensures _
-    (passed e).before.refused.ensures (passed e).if1.false (replicate 64 (pos 0)) (omega arith) (told e).figures_any.result (told e).figures_any.ensures.0 _ e.refused-2.ensures e.if-refused-2.false _ (told e).figures_any.ensures.1
+    figures_count s.args.name.now (run s) s.args.froms.now s.args.tos.now s.args.out.now _ _ name.judge_any-run.ensures name.judge_name-named.ensures _
+    (passed e).before.refused.ensures (passed e).if-refused.false (replicate 64 (pos 0)) (omega arith) (told e).figures_any-answer.result (told e).figures_any-answer.ensures.0 _ e.refused-2.ensures e.if-refused-2.false _ (told e).figures_any-answer.ensures.1
 
 put-figure-sheet-requires : tie.Need-put_figure_sheet-bytes-requires
 put-figure-sheet-requires c κs =
-    let e = c in
+    let e = c.before.before in
     let s = start e in
     let name = (passed e).before.before in
-    figures_fit s.args.name.now (run s) s.args.froms.now s.args.tos.now s.args.out.now _ _ name.before.judge_any.ensures name.judge_name.ensures _
-    (passed e).before.refused.ensures (passed e).if1.false (replicate 64 (pos 0)) (omega arith) (told e).figures_any.result (told e).figures_any.ensures.0 _ e.refused-2.ensures e.if-refused-2.false _ (told e).figures_any.ensures.1 _ (search rules)
+    figures_fit s.args.name.now (run s) s.args.froms.now s.args.tos.now s.args.out.now _ _ name.judge_any-run.ensures name.judge_name-named.ensures _
+    (passed e).before.refused.ensures (passed e).if-refused.false (replicate 64 (pos 0)) (omega arith) (told e).figures_any-answer.result (told e).figures_any-answer.ensures.0 _ e.refused-2.ensures e.if-refused-2.false _ (told e).figures_any-answer.ensures.1 _ (search rules)
 
 array-share-prefix-page : tie.Need-slice_bounds-page-end
 array-share-prefix-page c = search rules
@@ -127,11 +127,11 @@ same_length c = c.hand_out.auto.out
 returns-3 : tie.Need-returns
 returns-3 c =
     let sheet = c in
-    let e = sheet in
+    let e = sheet.before.before.before.before.before.before.before.before.before in
     let s = start e in
     let name = (passed e).before.before in
-    let wrote = figures_wrote s.args.name.now (run s) s.args.froms.now s.args.tos.now s.args.out.now _ _ name.before.judge_any.ensures name.judge_name.ensures _
-    (passed e).before.refused.ensures (passed e).if1.false (replicate 64 (pos 0)) (omega arith) (told e).figures_any.result (told e).figures_any.ensures.0 _ e.refused-2.ensures e.if-refused-2.false _ (told e).figures_any.ensures.1 _ _ _ sheet.put_figure_sheet-bytes.ensures in
+    let wrote = figures_wrote s.args.name.now (run s) s.args.froms.now s.args.tos.now s.args.out.now _ _ name.judge_any-run.ensures name.judge_name-named.ensures _
+    (passed e).before.refused.ensures (passed e).if-refused.false (replicate 64 (pos 0)) (omega arith) (told e).figures_any-answer.result (told e).figures_any-answer.ensures.0 _ e.refused-2.ensures e.if-refused-2.false _ (told e).figures_any-answer.ensures.1 _ _ _ sheet.put_figure_sheet-bytes.ensures in
     page_handed _ _ _ _ _ wrote _ _ (last e) _ _ c.hand_out.ensures
 
 pub write_figures_any_spec : {M : Type 1} → statement M

@@ -1,12 +1,12 @@
 -- `sheet_lists::count_lines` meets its contract: the lines met so far and those of what is left are all.
 -- Assumes nothing.
 use Prim.Native.Nat.{◌-◌}
-use mathlib.Core.Logic.{⊎_elim}
 use native.Mathlib.Omega.{arith}
 use lib.ListN.{length}
 use borrow.Author.Rules.{rules}
 use Rattle.sheet_lists.proofs.Counting.{Counted, counted_none, counted_feed, counted_other, counted_all}
 use Rattle.sheet_lists.proofs.count_lines.Statement.{statement}
+use Rattle.sheet_lists.proofs.count_lines.Lts.{then-text-i-eq10, else-text-i-eq10}
 use Rattle.sheet_lists.proofs.count_lines.Tie as tie
 
 abbrev invariant-loop : tie.invariant-loop-i
@@ -32,10 +32,10 @@ loop-less c = omega arith
 
 loop-again : tie.Need-loop-i-preserved invariant-loop decreases-loop
 loop-again c =
-    ⊎_elim
-    (λ w. rw w.1 (counted_feed _ _ _ c.loop-i.invariant (omega arith) w.0.taken))
-    (λ w. rw w.1 (counted_other _ _ _ c.loop-i.invariant (omega arith) w.0.left))
-    c.if-text-i-eq10.branch
+    elim c.if-text-i-eq10.branch [
+      | then-text-i-eq10 w ↦ rw w.lines-is (counted_feed _ _ _ c.loop-i.invariant (omega arith) w.if-text-i-eq10.true)
+      | else-text-i-eq10 w ↦ rw w.lines-is (counted_other _ _ _ c.loop-i.invariant (omega arith) w.if-text-i-eq10.false)
+    ]
 
 returns : tie.Need-returns invariant-loop decreases-loop
 returns c = counted_all _ _ _ c.loop-i.invariant c.loop-i-test.false
