@@ -10,59 +10,59 @@ use Rattle.answer_buys.proofs.write_list.Tie as tie
 abbrev start : tie.After-refused → tie.Start
 start f = f.before.before.before.before
 
-abbrev passed : tie.After-tape-name → tie.Else1
+abbrev passed : tie.After-tape_name → tie.Else-refused
 passed n = n.before.before.before
 
 refused-requires : tie.Need-refused-requires
 refused-requires c κs = search rules
 
-write-refusal-requires : tie.Need-write-refusal-requires
+write-refusal-requires : tie.Need-write_refusal-lines-requires
 write-refusal-requires c κs = search rules
 
-same_length : tie.Need-same-length
-same_length c = c.before.before.write-refusal.auto.1.0
+same_length : tie.Need-shape_of-out-then-refused
+same_length c = c.write_refusal-lines.auto.out
 
-returns : tie.Need-returns
+returns : tie.Need-returns-then-refused
 returns c =
-    let w = c.before.before in
-    let f = w.before.before.before in
-    let a = (start f).args in
-    refusal_written FigureWritten a.sheet.now a.run a.list a.out.now _ f.refused.ensures w.before.before.if1.true w.write-refusal.result _ w.write-refusal.ensures
+    let w = c in
+    let f = w in
+    let a = (start f.before.before.before.before.before).args in
+    refusal_written FigureWritten a.sheet.now a.run a.list a.out.now _ f.refused.ensures w.if-refused.true w.write_refusal-lines.result _ w.write_refusal-lines.ensures
 
-tape-name-requires : tie.Need-tape-name-requires
+tape-name-requires : tie.Need-tape_name-requires
 tape-name-requires c κs = search rules
 
-slice-aggregate-entries : tie.Need-slice-aggregate-entries
+slice-aggregate-entries : tie.Need-slice_bounds-entries-end
 slice-aggregate-entries c = search rules
 
 entries-requires : tie.Need-entries-requires
 entries-requires c κs = search rules
 
-slice-aggregate-entries-2 : tie.Need-slice-aggregate-entries-2
+slice-aggregate-entries-2 : tie.Need-slice_bounds-entries-end-2
 slice-aggregate-entries-2 c = search rules
 
 entries-requires-2 : tie.Need-entries-requires-2
 entries-requires-2 c κs = search rules
 
-write-text-requires : tie.Need-write-text-requires
+write-text-requires : tie.Need-write_text-text-requires
 write-text-requires c κs = search rules
 
-same-length-2 : tie.Need-same-length-2
-same-length-2 c = c.before.before.write-text.auto.1.1.1.1.0
+same-length-2 : tie.Need-shape_of-out
+same-length-2 c = c.write_text-text.auto.out
 
-returns-2 : tie.Need-returns-2
+returns-2 : tie.Need-returns
 returns-2 c =
-    let w = c.before.before in
-    let e2 = w.before.before in
-    let e1 = e2.before.before in
-    let n = e1.before.before in
-    let p = passed n in
+    let w = c in
+    let e2 = w in
+    let e1 = e2 in
+    let n = e1 in
+    let p = passed n.before.before.before.before.before.before.before.before in
     let a = (start p.before).args in
-    text_written FigureWritten a.sheet.now a.run a.list a.out.now _ p.before.refused.ensures p.if1.left n.tape-name.ensures.0 e1.entries.ensures.0 e2.entries2.ensures.0
-    w.write-text.result _ w.write-text.ensures
+    text_written FigureWritten a.sheet.now a.run a.list a.out.now _ p.refused.ensures p.if-refused.false n.tape_name.ensures.0 e1.entries.ensures.0 e2.entries-2.ensures.0
+    w.write_text-text.result _ w.write_text-text.ensures
 
-pub write-list-spec : {M : Type 1} → statement M
-write-list-spec =
+pub write_list_spec : {M : Type 1} → statement M
+write_list_spec =
     tie.close
     (tie.spec
     refused-requires

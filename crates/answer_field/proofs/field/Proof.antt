@@ -7,26 +7,26 @@ use borrow.Author.Rules.{rules}
 use Rattle.answer_field.proofs.field.Statement.{statement}
 use Rattle.answer_field.proofs.field.Tie as tie
 
-read-run-requires : tie.Need-read-run-requires
+read-run-requires : tie.Need-read_run-run-requires
 read-run-requires c κs = search rules
 
-list-run-requires : tie.Need-list-run-requires
+list-run-requires : tie.Need-list_run-list-requires
 list-run-requires c κs = search rules
 
-write-list-requires : tie.Need-write-list-requires
+write-list-requires : tie.Need-write_list-requires
 write-list-requires c κs = search rules
 
-same_length : tie.Need-same-length
-same_length c = c.before.before.write-list.auto.1.1.1.0
+same_length : tie.Need-shape_of-out
+same_length c = c.write_list.auto.out
 
 returns : tie.Need-returns
 returns c =
-    let w = c.before.before in
-    let l = w.before.before in
-    recalled field_checks run_passed _ _ l.before.read-run.ensures l.list-run.result l.list-run.ensures _ _ _ w.write-list.ensures
+    let w = c in
+    let l = w in
+    recalled field_checks run_passed _ _ l.read_run-run.ensures l.list_run-list.result l.list_run-list.ensures _ _ _ w.write_list.ensures
 
-pub field-spec : {M : Type 1} → statement M
-field-spec =
+pub field_spec : {M : Type 1} → statement M
+field_spec =
     tie.close
     (tie.spec
     read-run-requires

@@ -10,34 +10,34 @@ use Rattle.answer_outcome.proofs.empty_sum.Lts as lts
 use Rattle.walk.proofs.price.Reads as price-reads
 
 -- src/lib.rt:109:9
-slice-aggregate-price : tie.Need-slice-aggregate-price
+slice-aggregate-price : tie.Need-slice_bounds-price-end
 slice-aggregate-price c = search rules
 
 -- src/lib.rt:110:9
-slice-aggregate-price-2 : tie.Need-slice-aggregate-price-2
+slice-aggregate-price-2 : tie.Need-slice_bounds-price-end-2
 slice-aggregate-price-2 c = search rules
 
 -- src/lib.rt:111:9
-slice-aggregate-price-3 : tie.Need-slice-aggregate-price-3
+slice-aggregate-price-3 : tie.Need-slice_bounds-price-end-3
 slice-aggregate-price-3 c = search rules
 
 -- src/lib.rt:112:9
-slice-aggregate-price-4 : tie.Need-slice-aggregate-price-4
+slice-aggregate-price-4 : tie.Need-slice_bounds-price-end-4
 slice-aggregate-price-4 c = search rules
 
 -- src/lib.rt:101:9
-price-requires : tie.Need-price-requires
+price-requires : tie.Need-price-price-requires
 price-requires c κs = search rules
 
 -- src/lib.rt:86:1
 returns : tie.Need-returns
 returns c =
-    let back = c.before.before.before.before.before.before in
-    let start = back.before.before.before.before.before.before in
-    ap (λ a. a.sum) c.before.before.price.ensures.0 ∙ empty_price_lem _ _ (search rules) (search rules) start.requires
+    let back = c in
+    let start = back in
+    ap (λ a. a.sum) c.price-price.ensures.0 ∙ empty_price_lem _ _ (search rules) (search rules) start.requires
 
-pub empty-sum-spec : {M : Type 1} → statement M
-empty-sum-spec =
+pub empty_sum_spec : {M : Type 1} → statement M
+empty_sum_spec =
     tie.close
     (tie.spec
     slice-aggregate-price

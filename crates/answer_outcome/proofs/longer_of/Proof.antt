@@ -5,11 +5,13 @@ use borrow.Author.Tests.{lt-ltb, le-ltb}
 use Rattle.answer_outcome.proofs.longer_of.Statement.{statement}
 use Rattle.answer_outcome.proofs.longer_of.Tie as tie
 
-returns : tie.Need-returns
-returns c = simp (lt-ltb _ _ c.if1.true)
+returns : tie.Need-returns-then-most-time
+returns c = simp (lt-ltb _ _ c.if-most-time.true)
 
-returns-2 : tie.Need-returns-2
-returns-2 c = simp (le-ltb _ _ c.if1.false)
+returns-2 : tie.Need-returns
+returns-2 c = simp (le-ltb _ _ c.if-most-time.false)
 
-pub longer-of-spec : {M : Type 1} → statement M
-longer-of-spec = tie.close (tie.spec returns returns-2)
+pub longer_of_spec : {M : Type 1} → statement M
+longer_of_spec = tie.close (tie.spec
+    returns
+    returns-2)

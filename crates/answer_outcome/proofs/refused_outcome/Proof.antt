@@ -9,5 +9,6 @@ returns : tie.Need-returns
 unfolding refused_outcome
 returns c = refl
 
-pub refused-outcome-spec : {M : Type 1} → statement M
-refused-outcome-spec = tie.close (tie.spec returns)
+pub refused_outcome_spec : {M : Type 1} → statement M
+refused_outcome_spec = tie.close (tie.spec
+    returns)
