@@ -7,23 +7,23 @@ use borrow.Author.Rules.{rules}
 use Rattle.answer_month.proofs.add.Statement.{statement}
 use Rattle.answer_month.proofs.add.Tie as tie
 
-number-requires : tie.Need-number-requires
+number-requires : tie.Need-number-number-requires
 number-requires c κs = search rules
 
-add-refused-requires : tie.Need-add-refused-requires
-add-refused-requires c κs = omega (arith, number_small c.before.before.args.run.refusal, c.before.number.ensures)
+add-refused-requires : tie.Need-add_refused-requires
+add-refused-requires c κs = omega (arith, number_small c.args.run.refusal, c.number-number.ensures)
 
-returns : tie.Need-returns
-returns c = added_refused _ _ _ c.before.before.number.ensures c.before.if1.true _ c.add-refused.ensures
+returns : tie.Need-returns-then-number-ne0
+returns c = added_refused _ _ _ c.number-number.ensures c.if-number-ne0.true _ c.add_refused.ensures
 
-add-totals-requires : tie.Need-add-totals-requires
+add-totals-requires : tie.Need-add_totals-requires
 add-totals-requires c κs = search rules
 
-add-longest-requires : tie.Need-add-longest-requires
+add-longest-requires : tie.Need-add_longest-requires
 add-longest-requires c κs = search rules
 
-returns-2 : tie.Need-returns-2
-returns-2 c = added_accepted _ _ _ c.before.before.before.number.ensures c.before.before.if1.false _ _ c.before.add-totals.ensures c.add-longest.ensures
+returns-2 : tie.Need-returns
+returns-2 c = added_accepted _ _ _ c.number-number.ensures c.if-number-ne0.false _ _ c.add_totals.ensures c.add_longest.ensures
 
 pub add_spec : {M : Type 1} → statement M
 add_spec =

@@ -7,19 +7,21 @@ use Rattle.answer_month.specs.Month.{with_longest}
 use Rattle.answer_month.proofs.add_longest.Statement.{statement}
 use Rattle.answer_month.proofs.add_longest.Tie as tie
 
-returns : tie.Need-returns
+returns : tie.Need-returns-then-run-month
 unfolding with_longest
 returns c =
-    let a = c.before.before.before.args in
-    let shorter : a.run.time ≤ a.month.time = omega (arith, c.if1.true) in
+    let a = c.args in
+    let shorter : a.run.time ≤ a.month.time = omega (arith, c.if-run-month.true) in
     simp (le-ltb a.month.time a.run.time shorter)
 
-returns-2 : tie.Need-returns-2
+returns-2 : tie.Need-returns
 unfolding with_longest
 returns-2 c =
-    let a = c.before.before.before.before.args in
-    let longer : a.month.time < a.run.time = omega (arith, c.before.if1.false) in
+    let a = c.args in
+    let longer : a.month.time < a.run.time = omega (arith, c.if-run-month.false) in
     simp (lt-ltb a.month.time a.run.time longer)
 
-pub add-longest-spec : {M : Type 1} → statement M
-add-longest-spec = tie.close (tie.spec returns returns-2)
+pub add_longest_spec : {M : Type 1} → statement M
+add_longest_spec = tie.close (tie.spec
+    returns
+    returns-2)

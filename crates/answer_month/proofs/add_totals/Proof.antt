@@ -20,17 +20,17 @@ grow-requires-4 c κs = search rules
 grow-requires-5 : tie.Need-grow-requires-5
 grow-requires-5 c κs = search rules
 
-over-totals-requires : tie.Need-over-totals-requires
+over-totals-requires : tie.Need-over_totals-requires
 over-totals-requires c κs = search rules
 
 returns : tie.Need-returns
 unfolding with_totals
 returns c =
-    let g = c.before in
-    rw (c.over-totals.ensures, g.grow5.ensures, g.before.grow4.ensures, g.before.before.grow3.ensures, g.before.before.before.grow2.ensures, g.before.before.before.before.grow.ensures)
+    let g = c in
+    rw (c.over_totals.ensures, g.grow-5.ensures, g.grow-4.ensures, g.grow-3.ensures, g.grow-2.ensures, g.grow.ensures)
 
-pub add-totals-spec : {M : Type 1} → statement M
-add-totals-spec =
+pub add_totals_spec : {M : Type 1} → statement M
+add_totals_spec =
     tie.close
     (tie.spec
     grow-requires

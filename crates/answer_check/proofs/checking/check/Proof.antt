@@ -6,55 +6,55 @@ use borrow.Author.Rules.{rules}
 use Rattle.answer_check.proofs.checking.check.Statement.{statement}
 use Rattle.answer_check.proofs.checking.check.Tie as tie
 
-checked-requires : tie.Need-checked-requires
+checked-requires : tie.Need-checked-told-requires
 checked-requires c κs = search rules
 
 refused-requires : tie.Need-refused-requires
 refused-requires c κs = search rules
 
-answer-to-requires : tie.Need-answer-to-requires
+answer-to-requires : tie.Need-answer_to-requires
 answer-to-requires c κs = search rules
 
 -- From the test of the verdict back to the page, and to the start.
-abbrev paged : tie.After-refused → tie.After-checked
+abbrev paged : tie.After-refused → tie.After-checked-told
 paged f = f.before.before.before.before
 
-abbrev start : tie.After-checked → tie.Start
+abbrev start : tie.After-checked-told → tie.Start
 start k = k.before.before.before.before.before.before
 
-same_length : tie.Need-same-length
-same_length c = (paged c.before.before).checked.auto.1.1.0
+same_length : tie.Need-shape_of-room-then-refused
+same_length c = (paged c.before.before).checked-told.auto.room
 
-returns : tie.Need-returns
+returns : tie.Need-returns-then-refused
 returns c =
-    let f = c.before.before in
-    let k = paged f in
-    answer_refused _ (start k).args.plan.now _ k.checked.result _ k.checked.ensures _ f.refused.ensures c.before.if1.true _ _ c.answer-to.ensures
+    let f = c in
+    let k = paged f.before.before in
+    answer_refused _ (start k).args.plan.now _ k.checked-told.result _ k.checked-told.ensures _ f.refused.ensures c.if-refused.true _ _ c.answer_to.ensures
 
-array-share-prefix-text : tie.Need-array-share-prefix-text
-array-share-prefix-text c = (paged c.before.before).checked.ensures.within
+array-share-prefix-text : tie.Need-slice_bounds-text-end
+array-share-prefix-text c = (paged c.before.before).checked-told.ensures.within
 
-slice-aggregate-hand-out : tie.Need-slice-aggregate-hand-out
+slice-aggregate-hand-out : tie.Need-slice_bounds-hand_out-end
 slice-aggregate-hand-out c = sym (length-take-le _ _ (array-share-prefix-text c.before))
 
-hand-out-requires : tie.Need-hand-out-requires
+hand-out-requires : tie.Need-hand_out-requires
 hand-out-requires c κs = search rules
 
-same-length-2 : tie.Need-same-length-2
-same-length-2 c = c.before.before.hand-out.auto.1.0
+same-length-2 : tie.Need-shape_of-out
+same-length-2 c = c.hand_out.auto.out
 
-same-length-3 : tie.Need-same-length-3
-same-length-3 c = (paged c.before.before.before.before.before.before.before).checked.auto.1.1.0
+same-length-3 : tie.Need-shape_of-room
+same-length-3 c = (paged c.before.before.before.before.before.before.before).checked-told.auto.room
 
-returns-2 : tie.Need-returns-2
+returns-2 : tie.Need-returns
 returns-2 c =
-    let h = c.before.before in
-    let e = h.before.before.before.before in
-    let k = paged e.before in
-    answer_handed _ (start k).args.plan.now _ k.checked.result _ k.checked.ensures _ e.before.refused.ensures e.if1.false _ _ _ h.hand-out.ensures
+    let h = c in
+    let e = h in
+    let k = paged e.before.before.before.before.before.before.before in
+    answer_handed _ (start k).args.plan.now _ k.checked-told.result _ k.checked-told.ensures _ e.refused.ensures e.if-refused.false _ _ _ h.hand_out.ensures
 
-pub check-spec : {M : Type 1} → statement M
-check-spec =
+pub check_spec : {M : Type 1} → statement M
+check_spec =
     tie.close
     (tie.spec
     checked-requires

@@ -5,25 +5,25 @@ use borrow.Author.Rules.{rules}
 use Rattle.answer_check.proofs.inputs.price_input.Statement.{statement}
 use Rattle.answer_check.proofs.inputs.price_input.Tie as tie
 
-frame-input-requires : tie.Need-frame-input-requires
+frame-input-requires : tie.Need-frame_input-requires
 frame-input-requires c κs = search rules
 
-enum-known-from : tie.Need-enum-known-from
+enum-known-from : tie.Need-enum_known-from
 enum-known-from c = search rules
 
-enum_told : tie.Need-enum-told
+enum_told : tie.Need-enum_told-1
 enum_told c = search rules
 
-refuse-input-requires : tie.Need-refuse-input-requires
+refuse-input-requires : tie.Need-refuse_input-requires
 refuse-input-requires c κs = search rules
 
-same_length : tie.Need-same-length
-same_length c = c.before.before.refuse-input.auto.0
+same_length : tie.Need-shape_of-out-in_default
+same_length c = c.refuse_input.auto.out
 
-returns : tie.Need-returns
+returns : tie.Need-returns-in_default
 returns c =
-    let t = c.before.before.before.before in
-    framed_bad SheetPriced _ _ t.before.before.frame-input.ensures t.enum_told.given.1 _ _ _ c.before.before.refuse-input.ensures
+    let t = c in
+    framed_bad SheetPriced _ _ t.frame_input.ensures t.in_default.is _ _ _ c.refuse_input.ensures
 
 part-requires : tie.Need-part-requires
 part-requires c κs = search rules
@@ -34,17 +34,17 @@ part-requires-2 c κs = search rules
 price-requires : tie.Need-price-requires
 price-requires c κs = search rules
 
-same-length-2 : tie.Need-same-length-2
-same-length-2 c = c.before.before.price.auto.1.1.0
+same-length-2 : tie.Need-shape_of-out
+same-length-2 c = c.price.auto.out
 
-returns-2 : tie.Need-returns-2
+returns-2 : tie.Need-returns
 returns-2 c =
-    let p = c.before.before in
-    let k = p.before.before.before.before.before in
-    framed_texts SheetPriced _ _ k.before.before.frame-input.ensures _ _ k.from.given.1 _ _ p.before.before.before.part.ensures.0 p.before.before.part2.ensures.0 _ _ _ p.price.ensures
+    let p = c in
+    let k = p in
+    framed_texts SheetPriced _ _ k.frame_input.ensures _ _ k.in-Sheet.is _ _ p.part.ensures.0 p.part-2.ensures.0 _ _ _ p.price.ensures
 
-pub price-input-spec : {M : Type 1} → statement M
-price-input-spec =
+pub price_input_spec : {M : Type 1} → statement M
+price_input_spec =
     tie.close
     (tie.spec
     frame-input-requires

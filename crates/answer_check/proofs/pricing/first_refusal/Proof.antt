@@ -7,11 +7,14 @@ use Rattle.answer_check.proofs.pricing.first_refusal.Tie as tie
 refused-requires : tie.Need-refused-requires
 refused-requires c κs = search rules
 
-returns : tie.Need-returns
-returns c = first_stays c.before.before.args.first c.before.before.args.second _ c.before.refused.ensures c.if1.true
+returns : tie.Need-returns-then-refused
+returns c = first_stays c.args.first c.args.second _ c.refused.ensures c.if-refused.true
 
-returns-2 : tie.Need-returns-2
-returns-2 c = first_passes_on c.before.before.args.first c.before.before.args.second _ c.before.refused.ensures c.if1.false
+returns-2 : tie.Need-returns
+returns-2 c = first_passes_on c.args.first c.args.second _ c.refused.ensures c.if-refused.false
 
-pub first-refusal-spec : {M : Type 1} → statement M
-first-refusal-spec = tie.close (tie.spec refused-requires returns returns-2)
+pub first_refusal_spec : {M : Type 1} → statement M
+first_refusal_spec = tie.close (tie.spec
+    refused-requires
+    returns
+    returns-2)

@@ -4,55 +4,55 @@ use borrow.Author.Rules.{rules}
 use Rattle.answer_check.proofs.pricing.price.Statement.{statement}
 use Rattle.answer_check.proofs.pricing.price.Tie as tie
 
-read-run-requires : tie.Need-read-run-requires
+read-run-requires : tie.Need-read_run-run-requires
 read-run-requires c κs = search rules
 
-read-list-requires : tie.Need-read-list-requires
+read-list-requires : tie.Need-read_list-handed-requires
 read-list-requires c κs = search rules
 
-judged-requires : tie.Need-judged-requires
+judged-requires : tie.Need-judged-verdict-requires
 judged-requires c κs = search rules
 
 refused-requires : tie.Need-refused-requires
 refused-requires c κs = search rules
 
-write-refusal-requires : tie.Need-write-refusal-requires
+write-refusal-requires : tie.Need-write_refusal-lines-requires
 write-refusal-requires c κs = search rules
 
-same_length : tie.Need-same-length
-same_length c = c.before.before.write-refusal.auto.1.0
+same_length : tie.Need-shape_of-out-then-refused
+same_length c = c.write_refusal-lines.auto.out
 
 -- From the test of the verdict back to the run, and to the start.
-abbrev reading : tie.After-refused → tie.After-read-run
+abbrev reading : tie.After-refused → tie.After-read_run-run
 reading f = f.before.before.before
 
-abbrev start : tie.After-read-run → tie.Start
+abbrev start : tie.After-read_run-run → tie.Start
 start r = r.before.before.before.before
 
-returns : tie.Need-returns
+returns : tie.Need-returns-then-refused
 returns c =
-    let w = c.before.before in
-    let f = w.before.before.before in
-    let r = reading f in
-    let j = f.before in
-    price_refused _ r.read-run.result r.read-run.ensures (start r).args.list.now _ j.before.read-list.result j.before.read-list.ensures _ j.judged.ensures _ f.refused.ensures w.before.before.if1.true w.write-refusal.result _ w.write-refusal.ensures
+    let w = c in
+    let f = w in
+    let r = reading f.before.before.before.before.before in
+    let j = f in
+    price_refused _ r.read_run-run.result r.read_run-run.ensures (start r).args.list.now _ j.read_list-handed.result j.read_list-handed.ensures _ j.judged-verdict.ensures _ f.refused.ensures w.if-refused.true w.write_refusal-lines.result _ w.write_refusal-lines.ensures
 
-write-any-requires : tie.Need-write-any-requires
+write-any-requires : tie.Need-write_any-text-requires
 write-any-requires c κs = search rules
 
-same-length-2 : tie.Need-same-length-2
-same-length-2 c = c.before.before.write-any.auto.1.1.1.0
+same-length-2 : tie.Need-shape_of-out
+same-length-2 c = c.write_any-text.auto.out
 
-returns-2 : tie.Need-returns-2
+returns-2 : tie.Need-returns
 returns-2 c =
-    let w = c.before.before in
-    let f = w.before.before.before in
-    let r = reading f in
-    let j = f.before in
-    price_written _ r.read-run.result r.read-run.ensures (start r).args.list.now _ j.before.read-list.result j.before.read-list.ensures _ j.judged.ensures _ f.refused.ensures w.before.before.if1.false w.write-any.result _ w.write-any.ensures
+    let w = c in
+    let f = w in
+    let r = reading f.before.before.before.before.before in
+    let j = f in
+    price_written _ r.read_run-run.result r.read_run-run.ensures (start r).args.list.now _ j.read_list-handed.result j.read_list-handed.ensures _ j.judged-verdict.ensures _ f.refused.ensures w.if-refused.false w.write_any-text.result _ w.write_any-text.ensures
 
-pub price-spec : {M : Type 1} → statement M
-price-spec =
+pub price_spec : {M : Type 1} → statement M
+price_spec =
     tie.close
     (tie.spec
     read-run-requires

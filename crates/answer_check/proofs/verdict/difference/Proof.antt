@@ -8,54 +8,54 @@ use borrow.Author.Rules.{rules}
 use Rattle.answer_check.proofs.verdict.difference.Statement.{statement}
 use Rattle.answer_check.proofs.verdict.difference.Tie as tie
 
-abbrev invariant-loop : tie.invariant-loop
+abbrev invariant-loop : tie.invariant-loop-i
 invariant-loop plan expected line₀ start₀ i₀ line start i = Differing plan expected line start i
 
-abbrev decreases-loop : tie.decreases-loop
+abbrev decreases-loop : tie.decreases-loop-i
 decreases-loop plan expected line₀ start₀ i₀ line start i = length plan - i
 
-loop-holds : tie.Need-loop-init invariant-loop decreases-loop
+loop-holds : tie.Need-loop-i-init invariant-loop decreases-loop
 loop-holds c = differing_none _ _
 
-returns : tie.Need-returns invariant-loop decreases-loop
-returns c = differs_short _ _ _ _ _ c.before.before.loop.invariant (omega arith) c.if1.true
+returns : tie.Need-returns-then-expected-i invariant-loop decreases-loop
+returns c = differs_short _ _ _ _ _ c.loop-i.invariant (omega arith) c.if-expected-i.true
 
-shared-slice-read-if2 : tie.Need-shared-slice-read-if2 invariant-loop decreases-loop
+shared-slice-read-if2 : tie.Need-bounds-plan-i invariant-loop decreases-loop
 shared-slice-read-if2 c = omega arith
 
-shared-slice-read-if2-2 : tie.Need-shared-slice-read-if2-2 invariant-loop decreases-loop
+shared-slice-read-if2-2 : tie.Need-bounds-expected-i invariant-loop decreases-loop
 shared-slice-read-if2-2 c = omega arith
 
-returns-2 : tie.Need-returns-2 invariant-loop decreases-loop
-returns-2 c = differs_here _ _ _ _ _ c.before.before.before.before.before.loop.invariant (omega arith) (omega arith) c.if2.true
+returns-2 : tie.Need-returns-then-plan-i invariant-loop decreases-loop
+returns-2 c = differs_here _ _ _ _ _ c.loop-i.invariant (omega arith) (omega arith) c.if-plan-i.true
 
-shared-slice-read-if3 : tie.Need-shared-slice-read-if3 invariant-loop decreases-loop
+shared-slice-read-if3 : tie.Need-bounds-plan-i-in-loop-i invariant-loop decreases-loop
 shared-slice-read-if3 c = omega arith
 
-add-line : tie.Need-overflow-add-line invariant-loop decreases-loop
+add-line : tie.Need-overflow_add-line invariant-loop decreases-loop
 add-line c = search rules
 
-add_start : tie.Need-overflow-add-start invariant-loop decreases-loop
+add_start : tie.Need-overflow_add-start invariant-loop decreases-loop
 add_start c = omega arith
 
-add-i : tie.Need-overflow-add-i invariant-loop decreases-loop
+add-i : tie.Need-overflow_add-i invariant-loop decreases-loop
 add-i c = omega arith
 
-loop-less : tie.Need-loop-smaller invariant-loop decreases-loop
+loop-less : tie.Need-loop-i-smaller invariant-loop decreases-loop
 loop-less c = omega arith
 
-loop-again : tie.Need-loop-preserved invariant-loop decreases-loop
+loop-again : tie.Need-loop-i-preserved invariant-loop decreases-loop
 loop-again c =
     ⊎_elim
-    (λ w. rw (w.1, w.2) (same_feed _ _ _ _ _ c.before.before.before.before.before.before.before.loop.invariant (omega arith) (omega arith) c.before.before.if2.false w.0.taken))
-    (λ w. rw (w.1, w.2) (same_other _ _ _ _ _ c.before.before.before.before.before.before.before.loop.invariant (omega arith) (omega arith) c.before.before.if2.false w.0.left))
-    c.if3.branch
+    (λ w. rw (w.1, w.2) (same_feed _ _ _ _ _ c.loop-i.invariant (omega arith) (omega arith) c.if-plan-i.false w.0.taken))
+    (λ w. rw (w.1, w.2) (same_other _ _ _ _ _ c.loop-i.invariant (omega arith) (omega arith) c.if-plan-i.false w.0.left))
+    c.if-plan-i-eq10.branch
 
-returns-3 : tie.Need-returns-3 invariant-loop decreases-loop
-returns-3 c = differs_end _ _ _ _ _ c.before.loop.invariant c.loop-test.false
+returns-3 : tie.Need-returns invariant-loop decreases-loop
+returns-3 c = differs_end _ _ _ _ _ c.loop-i.invariant c.loop-i-test.false
 
-pub difference-spec : {M : Type 1} → statement M
-difference-spec =
+pub difference_spec : {M : Type 1} → statement M
+difference_spec =
     tie.close
     (tie.spec
     invariant-loop

@@ -6,71 +6,59 @@ use borrow.Author.Rules.{rules}
 use Rattle.answer_check.proofs.verdict.put_difference.Statement.{statement}
 use Rattle.answer_check.proofs.verdict.put_difference.Tie as tie
 
-is-walk-requires : tie.Need-is-walk-requires
+is-walk-requires : tie.Need-is_walk-requires
 is-walk-requires c κs = search rules
-
-slice-aggregate-put : tie.Need-slice-aggregate-put
-slice-aggregate-put c = search rules
 
 put-requires : tie.Need-put-requires
 put-requires c κs = search rules
 
-same_length : tie.Need-same-length
-same_length c = c.before.before.put.auto.0
+same_length : tie.Need-shape_of-page-then-is_walk
+same_length c = c.put.auto.page
 
-returns : tie.Need-returns
+returns : tie.Need-returns-then-is_walk
 returns c =
-    let at-if1 = c.before.before.before.before.before in
-    let at-is-walk = at-if1.before in
-    let start = at-is-walk.before.before.before.before in
-    kind_put _ _ _ _ _ _ _ _ (no_difference _ _ _ at-is-walk.is-walk.ensures at-if1.if1.true) (omega arith) start.requires c.before.before.put.ensures
+    let at-if1 = c in
+    let at-is-walk = at-if1 in
+    let start = at-is-walk in
+    kind_put _ _ _ _ _ _ _ _ (no_difference _ _ _ at-is-walk.is_walk.ensures at-if1.if-is_walk.true) (omega arith) start.requires c.put.ensures
 
-difference-requires : tie.Need-difference-requires
+difference-requires : tie.Need-difference-first-requires
 difference-requires c κs = search rules
 
-slice-aggregate-put-line-at : tie.Need-slice-aggregate-put-line-at
-slice-aggregate-put-line-at c = search rules
-
-put-line-at-requires : tie.Need-put-line-at-requires
+put-line-at-requires : tie.Need-put_line_at-next-requires
 put-line-at-requires c κs =
-    let back = c.before.before.before.before.before.before in
-    let start = back.before.before in
+    let back = c in
+    let start = back in
     omega (arith, start.requires)
 
-slice-aggregate-put-line-at-2 : tie.Need-slice-aggregate-put-line-at-2
-slice-aggregate-put-line-at-2 c = search rules
-
-put-line-at-requires-2 : tie.Need-put-line-at-requires-2
+put-line-at-requires-2 : tie.Need-put_line_at-requires
 put-line-at-requires-2 c κs =
-    let at-put-line-at = c.before.before.before.before in
-    let back = at-put-line-at.before.before.before.before.before.before in
-    let start = back.before.before.before in
-    room_left_lem _ _ _ _ _ _ _ start.requires at-put-line-at.put-line-at.ensures
+    let at-put-line-at = c in
+    let back = at-put-line-at in
+    let start = back in
+    room_left_lem _ _ _ _ _ _ _ start.requires at-put-line-at.put_line_at-next.ensures
 
-same-length-2 : tie.Need-same-length-2
-same-length-2 c = c.before.before.put-line-at2.auto.0 ∙ c.before.before.before.before.before.before.before.put-line-at.auto.0
+same-length-2 : tie.Need-shape_of-page
+same-length-2 c = c.put_line_at.auto.page ∙ c.put_line_at-next.auto.page
 
-returns-2 : tie.Need-returns-2
+returns-2 : tie.Need-returns
 returns-2 c =
-    let at-put-line-at = c.before.before.before.before.before.before.before in
-    let at-difference = at-put-line-at.before.before.before in
-    let at-if1 = at-difference.before in
-    let at-is-walk = at-if1.before in
-    both_put _ _ _ _ _ _ _ _ _ _ _ (difference_is _ _ _ at-is-walk.is-walk.ensures at-if1.if1.false _ at-difference.difference.ensures) at-put-line-at.put-line-at.ensures c.before.before.put-line-at2.ensures
+    let at-put-line-at = c in
+    let at-difference = at-put-line-at in
+    let at-if1 = at-difference in
+    let at-is-walk = at-if1 in
+    both_put _ _ _ _ _ _ _ _ _ _ _ (difference_is _ _ _ at-is-walk.is_walk.ensures at-if1.if-is_walk.false _ at-difference.difference-first.ensures) at-put-line-at.put_line_at-next.ensures c.put_line_at.ensures
 
-pub put-difference-spec : {M : Type 1} → statement M
-put-difference-spec =
+pub put_difference_spec : {M : Type 1} → statement M
+put_difference_spec =
     tie.close
     (tie.spec
     is-walk-requires
-    slice-aggregate-put
     put-requires
     same_length
     returns
     difference-requires
-    slice-aggregate-put-line-at
     put-line-at-requires
-    slice-aggregate-put-line-at-2
     put-line-at-requires-2
     same-length-2
     returns-2)

@@ -5,74 +5,66 @@ use borrow.Author.Rules.{rules}
 use Rattle.answer_check.proofs.verdict.put_line_at.Statement.{statement}
 use Rattle.answer_check.proofs.verdict.put_line_at.Tie as tie
 
-slice-aggregate-find-value : tie.Need-slice-aggregate-find-value
-slice-aggregate-find-value c = search rules
-
-find-value-requires : tie.Need-find-value-requires
+find-value-requires : tie.Need-find_value-requires
 find-value-requires c κs = search rules
 
-enum-known-from : tie.Need-enum-known-from
+enum-known-from : tie.Need-enum_known-from
 enum-known-from c = search rules
 
-enum_told : tie.Need-enum-told
+enum_told : tie.Need-enum_told-1
 enum_told c = search rules
 
-slice-aggregate-put-line : tie.Need-slice-aggregate-put-line
-slice-aggregate-put-line c = search rules
-
-put-line-requires : tie.Need-put-line-requires
+put-line-requires : tie.Need-put_line-requires
 put-line-requires c κs = search rules
 
-same_length : tie.Need-same-length
-same_length c = c.before.before.put-line.auto.0
+same_length : tie.Need-shape_of-page-in_default
+same_length c = c.put_line.auto.page
 
-returns : tie.Need-returns
+returns : tie.Need-returns-in_default
 returns c =
-    let at-enum-told = c.before.before.before.before.before in
-    let at-find-value = at-enum-told.before.before in
-    let start = at-find-value.before.before.before.before.before in
-    line_put _ _ start.args.key.now start.args.text.now _ _ _ _ (line_none start.args.text.now start.args.start _ at-find-value.find-value.ensures at-enum-told.enum_told.given.1) (omega arith) start.requires c.before.before.put-line.ensures
+    let at-enum-told = c in
+    let at-find-value = at-enum-told in
+    let start = at-find-value in
+    line_put _ _ start.args.key.now start.args.text.now _ _ _ _ (line_none start.args.text.now start.args.start _ at-find-value.find_value.ensures at-enum-told.in_default.is) (omega arith) start.requires c.put_line.ensures
 
-sub-put-line : tie.Need-overflow-sub-put-line
+sub-put-line : tie.Need-slice_bounds-put_line-count
 sub-put-line c =
-    let at-find-value = c.before.before.before.before in
-    let start = at-find-value.before.before.before.before.before in
-    omega (arith, line_ordered start.args.text.now start.args.start _ at-find-value.find-value.ensures _ _ c.before.before.from.given.1)
+    let at-find-value = c in
+    let start = at-find-value in
+    omega (arith, line_ordered start.args.text.now start.args.start _ at-find-value.find_value.ensures _ _ c.in-Text.is)
 
-part-put-line-start : tie.Need-slice-bounds-put-line-start
+part-put-line-start : tie.Need-slice_bounds-put_line-start
 part-put-line-start c =
-    let at-find-value = c.before.before.before.before in
-    let start = at-find-value.before.before.before.before.before in
-    omega (arith, line_ordered start.args.text.now start.args.start _ at-find-value.find-value.ensures _ _ c.before.before.from.given.1, line_inside start.args.text.now start.args.start _ at-find-value.find-value.ensures _ _ c.before.before.from.given.1)
+    let at-find-value = c in
+    let start = at-find-value in
+    omega (arith, line_ordered start.args.text.now start.args.start _ at-find-value.find_value.ensures _ _ c.in-Text.is, line_inside start.args.text.now start.args.start _ at-find-value.find_value.ensures _ _ c.in-Text.is)
 
-part-put-line-end : tie.Need-slice-bounds-put-line-end
+part-put-line-end : tie.Need-slice_bounds-put_line-end-2
 part-put-line-end c =
-    let at-find-value = c.before.before.before.before in
-    let start = at-find-value.before.before.before.before.before in
-    omega (arith, line_ordered start.args.text.now start.args.start _ at-find-value.find-value.ensures _ _ c.before.before.from.given.1, line_inside start.args.text.now start.args.start _ at-find-value.find-value.ensures _ _ c.before.before.from.given.1)
+    let at-find-value = c in
+    let start = at-find-value in
+    omega (arith, line_ordered start.args.text.now start.args.start _ at-find-value.find_value.ensures _ _ c.in-Text.is, line_inside start.args.text.now start.args.start _ at-find-value.find_value.ensures _ _ c.in-Text.is)
 
-put-line-requires-2 : tie.Need-put-line-requires-2
+put-line-requires-2 : tie.Need-put_line-requires-2
 put-line-requires-2 c κs = search rules
 
-same-length-2 : tie.Need-same-length-2
-same-length-2 c = c.before.before.put-line2.auto.0
+same-length-2 : tie.Need-shape_of-page
+same-length-2 c = c.put_line-2.auto.page
 
-returns-2 : tie.Need-returns-2
+returns-2 : tie.Need-returns
 returns-2 c =
-    let at_from = c.before.before.before.before.before.before in
-    let at-find-value = at_from.before.before in
-    let start = at-find-value.before.before.before.before.before in
-    line_put _ _ start.args.key.now start.args.text.now _ _ _ _ (line_some start.args.text.now start.args.start _ at-find-value.find-value.ensures _ _ at_from.from.given.1) (line_short start.args.text.now start.args.start _ at-find-value.find-value.ensures _ _ at_from.from.given.1) start.requires c.before.before.put-line2.ensures
+    let at_from = c in
+    let at-find-value = at_from in
+    let start = at-find-value in
+    line_put _ _ start.args.key.now start.args.text.now _ _ _ _ (line_some start.args.text.now start.args.start _ at-find-value.find_value.ensures _ _ at_from.in-Text.is) (line_short start.args.text.now start.args.start _ at-find-value.find_value.ensures _ _ at_from.in-Text.is) start.requires c.put_line-2.ensures
 
-pub put-line-at-spec : {M : Type 1} → statement M
-put-line-at-spec =
+pub put_line_at_spec : {M : Type 1} → statement M
+put_line_at_spec =
     tie.close
     (tie.spec
-    slice-aggregate-find-value
     find-value-requires
     enum-known-from
     enum_told
-    slice-aggregate-put-line
     put-line-requires
     same_length
     returns

@@ -8,47 +8,47 @@ use borrow.Author.Rules.{rules}
 use Rattle.answer_check.proofs.verdict.same_rows.Statement.{statement}
 use Rattle.answer_check.proofs.verdict.same_rows.Tie as tie
 
-abbrev invariant-loop : tie.invariant-loop
+abbrev invariant-loop : tie.invariant-loop-i
 invariant-loop row wanted i₀ i = Compared wanted row i
 
-abbrev decreases-loop : tie.decreases-loop
+abbrev decreases-loop : tie.decreases-loop-i
 decreases-loop row wanted i₀ i = length wanted - i
 
-returns : tie.Need-returns invariant-loop decreases-loop
-returns c = simp (ne_eqb _ _ c.if1.true)
+returns : tie.Need-returns-then-wanted-row invariant-loop decreases-loop
+returns c = simp (ne_eqb _ _ c.if-wanted-row.true)
 
-loop-holds : tie.Need-loop-init invariant-loop decreases-loop
+loop-holds : tie.Need-loop-i-init invariant-loop decreases-loop
 loop-holds c = compared_none _ _
 
-mul-if2 : tie.Need-overflow-mul-if2 invariant-loop decreases-loop
+mul-if2 : tie.Need-offset_bounds-wanted-i invariant-loop decreases-loop
 mul-if2 c = search rules
 
-shared-slice-read-if2 : tie.Need-shared-slice-read-if2 invariant-loop decreases-loop
+shared-slice-read-if2 : tie.Need-bounds-wanted-i invariant-loop decreases-loop
 shared-slice-read-if2 c = omega arith
 
-mul-if2-2 : tie.Need-overflow-mul-if2-2 invariant-loop decreases-loop
+mul-if2-2 : tie.Need-offset_bounds-row-i invariant-loop decreases-loop
 mul-if2-2 c = search rules
 
-shared-slice-read-if2-2 : tie.Need-shared-slice-read-if2-2 invariant-loop decreases-loop
-shared-slice-read-if2-2 c = omega (arith, c.before.before.before.before.if1.false)
+shared-slice-read-if2-2 : tie.Need-bounds-row-i invariant-loop decreases-loop
+shared-slice-read-if2-2 c = omega (arith, c.if-wanted-row.false)
 
-returns-2 : tie.Need-returns-2 invariant-loop decreases-loop
-returns-2 c = simp (eq-eqb _ _ c.before.before.before.before.before.if1.false) (key_differs _ _ _ c.before.before.before.before.loop.invariant (omega (arith, c.before.before.before.before.before.if1.false)) (omega arith) c.if2.true)
+returns-2 : tie.Need-returns-then-wanted-i invariant-loop decreases-loop
+returns-2 c = simp (eq-eqb _ _ c.if-wanted-row.false) (key_differs _ _ _ c.loop-i.invariant (omega (arith, c.if-wanted-row.false)) (omega arith) c.if-wanted-i.true)
 
-add-i : tie.Need-overflow-add-i invariant-loop decreases-loop
+add-i : tie.Need-overflow_add-i invariant-loop decreases-loop
 add-i c = omega arith
 
-loop-less : tie.Need-loop-smaller invariant-loop decreases-loop
+loop-less : tie.Need-loop-i-smaller invariant-loop decreases-loop
 loop-less c = omega arith
 
-loop-again : tie.Need-loop-preserved invariant-loop decreases-loop
-loop-again c = key_passed _ _ _ c.before.before.before.before.loop.invariant (omega (arith, c.before.before.before.before.before.if1.false)) (omega arith) c.if2.false
+loop-again : tie.Need-loop-i-preserved invariant-loop decreases-loop
+loop-again c = key_passed _ _ _ c.loop-i.invariant (omega (arith, c.if-wanted-row.false)) (omega arith) c.if-wanted-i.false
 
-returns-3 : tie.Need-returns-3 invariant-loop decreases-loop
-returns-3 c = simp (eq-eqb _ _ c.before.before.if1.false) (key_done _ _ _ c.before.loop.invariant (omega (arith, c.before.before.if1.false)) c.loop-test.false)
+returns-3 : tie.Need-returns invariant-loop decreases-loop
+returns-3 c = simp (eq-eqb _ _ c.if-wanted-row.false) (key_done _ _ _ c.loop-i.invariant (omega (arith, c.if-wanted-row.false)) c.loop-i-test.false)
 
-pub same-rows-spec : {M : Type 1} → statement M
-same-rows-spec =
+pub same_rows_spec : {M : Type 1} → statement M
+same_rows_spec =
     tie.close
     (tie.spec
     invariant-loop

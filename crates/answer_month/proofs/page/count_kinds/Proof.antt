@@ -10,43 +10,43 @@ use Rattle.answer_month.proofs.Pages.{one_few, kinds_turn, kinds_done}
 use Rattle.answer_month.proofs.page.count_kinds.Statement.{statement}
 use Rattle.answer_month.proofs.page.count_kinds.Tie as tie
 
-abbrev invariant-loop : tie.invariant-loop
+abbrev invariant-loop : tie.invariant-loop-i
 invariant-loop runs kinds₀ i₀ kinds i = (kinds + kinds_in (drop i runs) ≡ kinds_in runs) × (kinds ≤ i) × (i ≤ length runs)
 
-abbrev decreases-loop : tie.decreases-loop
+abbrev decreases-loop : tie.decreases-loop-i
 decreases-loop runs kinds₀ i₀ kinds i = length runs - i
 
-loop-holds : tie.Need-loop-init invariant-loop decreases-loop
+loop-holds : tie.Need-loop-i-init invariant-loop decreases-loop
 loop-holds c = (omega arith, omega arith, omega arith)
 
-mul-one-more : tie.Need-overflow-mul-one-more invariant-loop decreases-loop
+mul-one-more : tie.Need-offset_bounds-runs-i invariant-loop decreases-loop
 mul-one-more c = search rules
 
-shared-slice-read-one-more : tie.Need-shared-slice-read-one-more invariant-loop decreases-loop
+shared-slice-read-one-more : tie.Need-bounds-runs-i invariant-loop decreases-loop
 shared-slice-read-one-more c = search rules
 
-one-more-requires : tie.Need-one-more-requires invariant-loop decreases-loop
-one-more-requires c κs = omega (arith, c.before.before.loop.invariant.1, c.before.before.loop.invariant.2)
+one-more-requires : tie.Need-one_more-kinds-requires invariant-loop decreases-loop
+one-more-requires c κs = omega (arith, c.loop-i.invariant.1, c.loop-i.invariant.2)
 
-add-i : tie.Need-overflow-add-i invariant-loop decreases-loop
+add-i : tie.Need-overflow_add-i invariant-loop decreases-loop
 add-i c = search rules
 
-loop-less : tie.Need-loop-smaller invariant-loop decreases-loop
+loop-less : tie.Need-loop-i-smaller invariant-loop decreases-loop
 loop-less c = search rules
 
-loop-again : tie.Need-loop-preserved invariant-loop decreases-loop
+loop-again : tie.Need-loop-i-preserved invariant-loop decreases-loop
 loop-again c =
-    let d = c.before.before.before in
-    let l = c.before.before.loop-test.true in
-    let turn = kinds_turn c.before.before.before.before.before.args.runs.now d.loop.i l in
-    let few = one_few (get_or c.before.before.before.before.before.args.runs.now d.loop.i 0) in
-    (omega (arith, d.loop.invariant.0, c.one_more.ensures, turn), omega (arith, d.loop.invariant.1, c.one_more.ensures, few), omega (arith, l))
+    let d = c in
+    let l = c.loop-i-test.true in
+    let turn = kinds_turn c.args.runs.now d.loop-i.i l in
+    let few = one_few (get_or c.args.runs.now d.loop-i.i 0) in
+    (omega (arith, d.loop-i.invariant.0, c.one_more-kinds.ensures, turn), omega (arith, d.loop-i.invariant.1, c.one_more-kinds.ensures, few), omega (arith, l))
 
 returns : tie.Need-returns invariant-loop decreases-loop
-returns c = let d = c.before in omega (arith, d.loop.invariant.0, kinds_done c.before.before.before.args.runs.now d.loop.i c.loop-test.false)
+returns c = let d = c in omega (arith, d.loop-i.invariant.0, kinds_done c.args.runs.now d.loop-i.i c.loop-i-test.false)
 
-pub count-kinds-spec : {M : Type 1} → statement M
-count-kinds-spec =
+pub count_kinds_spec : {M : Type 1} → statement M
+count_kinds_spec =
     tie.close
     (tie.spec
     invariant-loop

@@ -6,14 +6,17 @@ use borrow.Author.Rules.{rules}
 use Rattle.answer_month.proofs.page.one_more.Statement.{statement}
 use Rattle.answer_month.proofs.page.one_more.Tie as tie
 
-returns : tie.Need-returns
-returns c = simp (eq-eqb _ _ c.if1.true) (omega arith)
+returns : tie.Need-returns-then-runs-eq0
+returns c = simp (eq-eqb _ _ c.if-runs-eq0.true) (omega arith)
 
-add-result : tie.Need-overflow-add-result
+add-result : tie.Need-overflow_add-result
 add-result c = search rules
 
-returns-2 : tie.Need-returns-2
-returns-2 c = simp (ne_eqb _ _ c.if1.false)
+returns-2 : tie.Need-returns
+returns-2 c = simp (ne_eqb _ _ c.if-runs-eq0.false)
 
-pub one-more-spec : {M : Type 1} → statement M
-one-more-spec = tie.close (tie.spec returns add-result returns-2)
+pub one_more_spec : {M : Type 1} → statement M
+one_more_spec = tie.close (tie.spec
+    returns
+    add-result
+    returns-2)

@@ -6,70 +6,58 @@ use borrow.Author.Rules.{rules}
 use Rattle.answer_month.proofs.page.put_end.Statement.{statement}
 use Rattle.answer_month.proofs.page.put_end.Tie as tie
 
-slice-aggregate-put-number-line : tie.Need-slice-aggregate-put-number-line
-slice-aggregate-put-number-line c = search rules
-
-put-number-line-requires : tie.Need-put-number-line-requires
+put-number-line-requires : tie.Need-put_number_line-end-requires
 put-number-line-requires c κs = search rules
 
 refused-requires : tie.Need-refused-requires
 refused-requires c κs = search rules
 
-same_length : tie.Need-same-length
-same_length c = c.before.before.before.before.put-number-line.auto.0
+same_length : tie.Need-shape_of-page-then-not-refused
+same_length c = c.put_number_line-end.auto.page
 
-returns : tie.Need-returns
+returns : tie.Need-returns-then-not-refused
 returns c =
-    let at-put-number-line = c.before.before.before.before in
-    let start = at-put-number-line.before.before.before.before in
-    put_saved _ _ _ c.before.refused.ensures _ _ _ _ start.requires at-put-number-line.put-number-line.ensures c.if1.true
-
-slice-aggregate-put-number-line-2 : tie.Need-slice-aggregate-put-number-line-2
-slice-aggregate-put-number-line-2 c = search rules
+    let at-put-number-line = c in
+    let start = at-put-number-line in
+    put_saved _ _ _ c.refused.ensures _ _ _ _ start.requires at-put-number-line.put_number_line-end.ensures c.if-not-refused.true-raw
 
 number-requires : tie.Need-number-requires
 number-requires c κs = search rules
 
-put-number-line-requires-2 : tie.Need-put-number-line-requires-2
+put-number-line-requires-2 : tie.Need-put_number_line-place-requires
 put-number-line-requires-2 c κs = search rules
 
-slice-aggregate-put-number-line-3 : tie.Need-slice-aggregate-put-number-line-3
-slice-aggregate-put-number-line-3 c = search rules
-
-put-number-line-requires-3 : tie.Need-put-number-line-requires-3
+put-number-line-requires-3 : tie.Need-put_number_line-requires
 put-number-line-requires-3 c κs = search rules
 
-same-length-2 : tie.Need-same-length-2
+same-length-2 : tie.Need-shape_of-page
 same-length-2 c =
-    let at-put-number-line3 = c.before.before in
-    let at-put-number-line2 = at-put-number-line3.before.before.before.before.before in
-    let at-if1 = at-put-number-line2.before.before.before.before in
-    let at-put-number-line = at-if1.before.before.before.before in
-    at-put-number-line3.put-number-line3.auto.0 ∙ at-put-number-line2.put-number-line2.auto.0 ∙ at-put-number-line.put-number-line.auto.0
+    let at-put-number-line3 = c in
+    let at-put-number-line2 = at-put-number-line3 in
+    let at-if1 = at-put-number-line2 in
+    let at-put-number-line = at-if1 in
+    at-put-number-line3.put_number_line.auto.page ∙ at-put-number-line2.put_number_line-place.auto.page ∙ at-put-number-line.put_number_line-end.auto.page
 
-returns-2 : tie.Need-returns-2
+returns-2 : tie.Need-returns
 returns-2 c =
-    let at-put-number-line2 = c.before.before.before.before.before.before.before in
-    let at-number = at-put-number-line2.before in
-    let at-if1 = at-number.before.before.before in
-    let at-refused = at-if1.before in
-    let at-put-number-line = at-refused.before.before.before in
-    let start = at-put-number-line.before.before.before.before in
-    put_refused _ _ _ at-refused.refused.ensures _ _ _ _ start.requires at-put-number-line.put-number-line.ensures at-if1.if1.false _ at-number.number.ensures _ _ _ _ at-put-number-line2.put-number-line2.ensures c.before.before.put-number-line3.ensures
+    let at-put-number-line2 = c in
+    let at-number = at-put-number-line2 in
+    let at-if1 = at-number in
+    let at-refused = at-if1 in
+    let at-put-number-line = at-refused in
+    let start = at-put-number-line in
+    put_refused _ _ _ at-refused.refused.ensures _ _ _ _ start.requires at-put-number-line.put_number_line-end.ensures at-if1.if-not-refused.false-raw _ at-number.number.ensures _ _ _ _ at-put-number-line2.put_number_line-place.ensures c.put_number_line.ensures
 
-pub put-end-spec : {M : Type 1} → statement M
-put-end-spec =
+pub put_end_spec : {M : Type 1} → statement M
+put_end_spec =
     tie.close
     (tie.spec
-    slice-aggregate-put-number-line
     put-number-line-requires
     refused-requires
     same_length
     returns
-    slice-aggregate-put-number-line-2
     number-requires
     put-number-line-requires-2
-    slice-aggregate-put-number-line-3
     put-number-line-requires-3
     same-length-2
     returns-2)

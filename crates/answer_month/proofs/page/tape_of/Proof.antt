@@ -9,16 +9,19 @@ use borrow.Author.Rules.{rules}
 use Rattle.answer_month.proofs.page.tape_of.Statement.{statement}
 use Rattle.answer_month.proofs.page.tape_of.Tie as tie
 
-slice-aggregate-result : tie.Need-slice-aggregate-result
-slice-aggregate-result c = sym (length-take-le _ _ c.before.if1.true)
+slice-aggregate-result : tie.Need-slice_bounds-result-end
+slice-aggregate-result c = sym (length-take-le _ _ c.if-end-tape.true)
 
-returns : tie.Need-returns
+returns : tie.Need-returns-then-end-tape
 returns c = search rules
 
-returns-2 : tie.Need-returns-2
+returns-2 : tie.Need-returns
 returns-2 c =
-    let short : length c.before.args.tape.now ≤ c.before.args.letters = omega (arith, c.if1.false) in
-    sym (take_all c.before.args.letters c.before.args.tape.now short)
+    let short : length c.args.tape.now ≤ c.args.letters = omega (arith, c.if-end-tape.false) in
+    sym (take_all c.args.letters c.args.tape.now short)
 
-pub tape-of-spec : {M : Type 1} → statement M
-tape-of-spec = tie.close (tie.spec slice-aggregate-result returns returns-2)
+pub tape_of_spec : {M : Type 1} → statement M
+tape_of_spec = tie.close (tie.spec
+    slice-aggregate-result
+    returns
+    returns-2)

@@ -6,14 +6,17 @@ use borrow.Author.Rules.{rules}
 use Rattle.answer_month.proofs.parts.add_sheet.Statement.{statement}
 use Rattle.answer_month.proofs.parts.add_sheet.Tie as tie
 
-returns : tie.Need-returns
-returns c = record { cut = λ h. refl; whole = λ h. absurd (omega (arith, h, c.if1.true)) }
+returns : tie.Need-returns-then-there-bytes
+returns c = record { cut = λ h. refl; whole = λ h. absurd (omega (arith, h, c.if-there-bytes.true)) }
 
-add-whole-requires : tie.Need-add-whole-requires
+add-whole-requires : tie.Need-add_whole-requires
 add-whole-requires c κs = search rules
 
-returns-2 : tie.Need-returns-2
-returns-2 c = record { cut = λ h. absurd (omega (arith, h, c.before.if1.false)); whole = λ h. c.add-whole.ensures }
+returns-2 : tie.Need-returns
+returns-2 c = record { cut = λ h. absurd (omega (arith, h, c.if-there-bytes.false)); whole = λ h. c.add_whole.ensures }
 
-pub add-sheet-spec : {M : Type 1} → statement M
-add-sheet-spec = tie.close (tie.spec returns add-whole-requires returns-2)
+pub add_sheet_spec : {M : Type 1} → statement M
+add_sheet_spec = tie.close (tie.spec
+    returns
+    add-whole-requires
+    returns-2)

@@ -5,14 +5,17 @@ use borrow.Author.Rules.{rules}
 use Rattle.answer_month.proofs.parts.line_behind.Statement.{statement}
 use Rattle.answer_month.proofs.parts.line_behind.Tie as tie
 
-returns : tie.Need-returns
-returns c = behind_past _ _ c.if1.true
+returns : tie.Need-returns-then-sheets-ge-MOST_SHEETS
+returns c = behind_past _ _ c.if-sheets-ge-MOST_SHEETS.true
 
-count-line-requires : tie.Need-count-line-requires
+count-line-requires : tie.Need-count_line-requires
 count-line-requires c κs = search rules
 
-returns-2 : tie.Need-returns-2
-returns-2 c = behind_line _ _ c.before.if1.false _ c.count-line.ensures
+returns-2 : tie.Need-returns
+returns-2 c = behind_line _ _ c.if-sheets-ge-MOST_SHEETS.false _ c.count_line.ensures
 
-pub line-behind-spec : {M : Type 1} → statement M
-line-behind-spec = tie.close (tie.spec returns count-line-requires returns-2)
+pub line_behind_spec : {M : Type 1} → statement M
+line_behind_spec = tie.close (tie.spec
+    returns
+    count-line-requires
+    returns-2)

@@ -5,14 +5,17 @@ use borrow.Author.Rules.{rules}
 use Rattle.answer_month.proofs.parts.next_part.Statement.{statement}
 use Rattle.answer_month.proofs.parts.next_part.Tie as tie
 
-returns : tie.Need-returns
-returns c = part_end _ _ c.if1.true
+returns : tie.Need-returns-then-line-eq0
+returns c = part_end _ _ c.if-line-eq0.true
 
-line-behind-requires : tie.Need-line-behind-requires
+line-behind-requires : tie.Need-line_behind-requires
 line-behind-requires c κs = search rules
 
-returns-2 : tie.Need-returns-2
-returns-2 c = part_line _ _ c.before.if1.false _ c.line-behind.ensures
+returns-2 : tie.Need-returns
+returns-2 c = part_line _ _ c.if-line-eq0.false _ c.line_behind.ensures
 
-pub next-part-spec : {M : Type 1} → statement M
-next-part-spec = tie.close (tie.spec returns line-behind-requires returns-2)
+pub next_part_spec : {M : Type 1} → statement M
+next_part_spec = tie.close (tie.spec
+    returns
+    line-behind-requires
+    returns-2)
