@@ -20,7 +20,7 @@ module _ (c : ℕ) where
   pub has_here : (a b : List ℕ) → has c (a ++ c ∷ b) ≡ true
   unfolding has
   has_here [] b = rw (eq-eqb c c refl)
-  has_here (x ∷ a) b = rw (has_here a b) (mathlib.Core.Bool.or_true (eqb x c))
+  has_here (x ∷ a) b = rw (has_here a b) (mathlib.Core.Bool.or-true (eqb x c))
 
   pub before_here : (a b : List ℕ) → has c a ≡ false → before c (a ++ c ∷ b) ≡ a
   unfolding has before
