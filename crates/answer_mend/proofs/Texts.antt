@@ -102,7 +102,7 @@ module _ (page₀ : List ℕ) (at : ℕ) (row wanted counts : List ℕ) (room : 
 module _ (sheet : List ℕ) where
   table_ends_here : Ends (file_text sheet) sheet
   unfolding file_text
-  table_ends = after_ends 5 sheet
+  table_ends_here = after_ends 5 sheet
 
   tail_ends : Ends (loose_wants_text sheet) (file_text sheet)
   unfolding loose_wants_text

@@ -29,7 +29,7 @@ use Rattle.answer_pick.specs.declared.Picked.{Picked}
 use Rattle.answer_pick.specs.Picks.{are_readable, tape_of, asked_files, asked_span, is_unknown, is_without, is_too_far, refused_if, refused_at, first_refused, first_line, list_refused, input_checks, line_checks, pick_refused}
 use Rattle.answer_pick.specs.Answer.{asked_starts, entries_refused, rows_refused, answer_of, PickAnswered}
 use Rattle.answer_pick.specs.Promises.{OnlyFile}
-use Rattle.answer_pick.specs.Applies.{FirstLineThat, HasNoFile, CannotBeRead, EndsTooFar, PickApplies, pick_order, FirstToApply, none, here, later, bad_name, bad_text, other_volume, bad_line, many_lines, unknown_path, no_bytes, far_file, many_entries, short_row, RefusesTheFirst, EntriesArePicked}
+use Rattle.answer_pick.specs.Applies.{FirstLineThat, HasNoFile, CannotBeRead, EndsTooFar, PickApplies, pick_order, FirstToApply, none, here, later, bad_name, bad_text, another_volume, bad_line, many_lines, unknown_path, no_bytes, far_file, many_entries, short_row, RefusesTheFirst, EntriesArePicked}
 use Rattle.answer_pick.proofs.Readable.{readable_good, good_readable}
 use Rattle.answer_pick.proofs.Promised.{first_parts, one_named, only_one}
 
@@ -217,10 +217,10 @@ module _ (unit : ℕ) (name label index list firsts sheet named out names : List
       back p (bad_text n) = flip (are_readable unit label index) (λ e. n (readable_good unit label index e))
 
   volume_check : Check Applies 44 volumeCheck
-  volume_check = if_check Applies 44 (omega arith) (other_volume (tree_of label) (tree_of index)) other_volume (λ p a. back p a)
+  volume_check = if_check Applies 44 (omega arith) (other_volume (tree_of label) (tree_of index)) another_volume (λ p a. back p a)
     where
       back : (p : ℕ) → Applies 44 p → other_volume (tree_of label) (tree_of index) ≡ true
-      back p (other_volume e) = e
+      back p (another_volume e) = e
 
   bad_check : Check Applies 11 badCheck
   unfolding first_bad_of

@@ -48,7 +48,7 @@ pub record TextsAreGood (unit : ℕ) (label index : List ℕ) : Type 0 where
 pub data PickApplies (unit : ℕ) (name label index list firsts sheet named out names : List ℕ) : ℕ → ℕ → Type 0 where
   bad_name : (is_name name ≡ true → ⊥) → PickApplies unit name label index list firsts sheet named out names 13 0
   bad_text : (TextsAreGood unit label index → ⊥) → PickApplies unit name label index list firsts sheet named out names 20 0
-  other_volume : other_volume (tree_of label) (tree_of index) ≡ true → PickApplies unit name label index list firsts sheet named out names 44 0
+  another_volume : other_volume (tree_of label) (tree_of index) ≡ true → PickApplies unit name label index list firsts sheet named out names 44 0
   bad_line : {place : ℕ} → FirstLineThat (λ i. is_asked (line_after i list) ≡ true → ⊥) (line_count list) place → PickApplies unit name label index list firsts sheet named out names 11 place
   many_lines : most_lines < line_count list → PickApplies unit name label index list firsts sheet named out names 5 0
   unknown_path : {place : ℕ} → FirstLineThat (HasNoFile index list) (line_count list) place → PickApplies unit name label index list firsts sheet named out names 41 place

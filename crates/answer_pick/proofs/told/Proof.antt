@@ -10,5 +10,7 @@ number-requires c κs = search rules
 returns : tie.Need-returns
 returns c = rw c.number.ensures
 
-pub told-spec : {M : Type 1} → statement M
-told-spec = tie.close (tie.spec number-requires returns)
+pub told_spec : {M : Type 1} → statement M
+told_spec = tie.close (tie.spec
+    number-requires
+    returns)

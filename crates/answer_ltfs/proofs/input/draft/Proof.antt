@@ -57,13 +57,13 @@ returns-2 c =
     no_texts _ _ _ (first-line k.before.before.before.before).tape_line.ensures _ _ k.in-Name.is _ t.texts_at.ensures c2.in_default-texts_at.is _ c.refuse_if-in_default-texts_at.ensures _ c.refusal_of-in_default-texts_at.ensures
 
 sub-table-sheet : tie.Need-slice_bounds-table_sheet-count
-sub-table-sheet c = let k = (behind-name c).before in name_ordered _ _ (first-line k).tape_line.ensures _ _ k.before.end.given.1
+sub-table-sheet c = let n = behind-name c in let k = n.before in name_ordered _ _ (first-line k).tape_line.ensures _ _ n.in-Name.is
 
 part-table-sheet-start : tie.Need-slice_bounds-table_sheet-start
-part-table-sheet-start c = let k = (behind-name c).before in name_ordered _ _ (first-line k).tape_line.ensures _ _ k.before.end.given.1
+part-table-sheet-start c = let n = behind-name c in let k = n.before in name_ordered _ _ (first-line k).tape_line.ensures _ _ n.in-Name.is
 
 part-table-sheet-end : tie.Need-slice_bounds-table_sheet-end
-part-table-sheet-end c = let k = (behind-name c).before in omega (arith, name_within _ _ (first-line k).tape_line.ensures _ _ k.before.end.given.1)
+part-table-sheet-end c = let n = behind-name c in let k = n.before in omega (arith, name_within _ _ (first-line k).tape_line.ensures _ _ n.in-Name.is)
 
 sub-table-sheet-2 : tie.Need-slice_bounds-table_sheet-count-2
 sub-table-sheet-2 c =

@@ -9,29 +9,37 @@ use Rattle.answer_pick.proofs.texts.judge_input.Tie as tie
 number-requires : tie.Need-number-requires
 number-requires c κs = search rules
 
-refused-if-requires : tie.Need-refused-if-requires
+refused-if-requires : tie.Need-refused_if-requires
 refused-if-requires c κs = search rules
 
-returns : tie.Need-returns
+returns : tie.Need-returns-then-not-good
 returns c =
-    input_bad c.before.before.before.before.args.good c.before.before.before.before.args.other c.before.before.before.before.args.list.now c.before.before.if1.true _ (c.refused-if.ensures ∙ rw c.before.number.ensures)
+    input_bad c.args.good c.args.other c.args.list.now c.if-not-good.true-raw _ (c.refused_if.ensures ∙ rw c.number.ensures)
 
-own-number-requires : tie.Need-own-number-requires
+own-number-requires : tie.Need-own_number-requires
 own-number-requires c κs = search rules
 
-refused-if-requires-2 : tie.Need-refused-if-requires-2
+refused-if-requires-2 : tie.Need-refused_if-requires-then-other
 refused-if-requires-2 c κs = search rules
 
-returns-2 : tie.Need-returns-2
+returns-2 : tie.Need-returns-then-other
 returns-2 c =
-    input_other c.before.before.before.before.before.args.good c.before.before.before.before.before.args.other c.before.before.before.before.before.args.list.now c.before.before.before.if1.false c.before.before.if2.true _ (c.refused-if2.ensures ∙ rw c.before.own-number.ensures)
+    input_other c.args.good c.args.other c.args.list.now c.if-not-good.false-raw c.if-other.true _ (c.refused_if-then-other.ensures ∙ rw c.own_number.ensures)
 
-judge-paths-requires : tie.Need-judge-paths-requires
+judge-paths-requires : tie.Need-judge_paths-requires
 judge-paths-requires c κs = search rules
 
-returns-3 : tie.Need-returns-3
+returns-3 : tie.Need-returns
 returns-3 c =
-    input_list c.before.before.before.before.args.good c.before.before.before.before.args.other c.before.before.before.before.args.list.now c.before.before.if1.false c.before.if2.false _ c.judge-paths.ensures
+    input_list c.args.good c.args.other c.args.list.now c.if-not-good.false-raw c.if-other.false _ c.judge_paths.ensures
 
-pub judge-input-spec : {M : Type 1} → statement M
-judge-input-spec = tie.close (tie.spec number-requires refused-if-requires returns own-number-requires refused-if-requires-2 returns-2 judge-paths-requires returns-3)
+pub judge_input_spec : {M : Type 1} → statement M
+judge_input_spec = tie.close (tie.spec
+    number-requires
+    refused-if-requires
+    returns
+    own-number-requires
+    refused-if-requires-2
+    returns-2
+    judge-paths-requires
+    returns-3)

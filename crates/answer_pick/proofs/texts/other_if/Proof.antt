@@ -6,14 +6,17 @@ use borrow.Author.Tests.{not-true, not-false}
 use Rattle.answer_pick.proofs.texts.other_if.Statement.{statement}
 use Rattle.answer_pick.proofs.texts.other_if.Tie as tie
 
-returns : tie.Need-returns
-returns c = rw (not-true c.before.before.before.args.good c.if1.true)
+returns : tie.Need-returns-then-not-good
+returns c = rw (not-true c.args.good c.if-not-good.true-raw)
 
-other-volume-requires : tie.Need-other-volume-requires
+other-volume-requires : tie.Need-other_volume-requires
 other-volume-requires c κs = search rules
 
-returns-2 : tie.Need-returns-2
-returns-2 c = c.other_volume.ensures ∙ rw (not-false c.before.before.before.before.args.good c.before.if1.false)
+returns-2 : tie.Need-returns
+returns-2 c = c.other_volume.ensures ∙ rw (not-false c.args.good c.if-not-good.false-raw)
 
-pub other-if-spec : {M : Type 1} → statement M
-other-if-spec = tie.close (tie.spec returns other-volume-requires returns-2)
+pub other_if_spec : {M : Type 1} → statement M
+other_if_spec = tie.close (tie.spec
+    returns
+    other-volume-requires
+    returns-2)

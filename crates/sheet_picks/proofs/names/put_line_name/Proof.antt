@@ -6,31 +6,6 @@ use Rattle.sheet_picks.proofs.Laying.{laid_outside, laid_later, laid_name}
 use Rattle.sheet_picks.proofs.names.put_line_name.Statement.{statement}
 use Rattle.sheet_picks.proofs.names.put_line_name.Tie as tie
 
--- The way back from a place in the code to the one that the name says.
-abbrev at-start-from-then2 : tie.Then-reads-eq0 → tie.Start
-at-start-from-then2 c = c.before.before.before.before.before.before.before.before.before
-
-abbrev at-start-from-shared-slice-known5 : tie.After-shared_slice_known-5-1 → tie.Start
-at-start-from-shared-slice-known5 c = c.before.before.before.before.before.before.before.before.before.before
-
-abbrev at-start-from-shared-slice-known6 : tie.After-shared_slice_known-6-1 → tie.Start
-at-start-from-shared-slice-known6 c = c.before.before.before.before.before.before.before.before.before.before.before
-
-abbrev at-start-from-put-name-arg : tie.After-put_name-arg-1 → tie.Start
-at-start-from-put-name-arg c = c.before.before.before.before.before.before.before.before.before.before.before.before
-
-abbrev at-start-from-slice-known2 : tie.After-slice_known-2-1 → tie.Start
-at-start-from-slice-known2 c = c.before.before.before.before.before.before.before.before.before.before.before.before.before.before.before.before
-
-abbrev at-after-lies-in-from-slice-known2 : tie.After-slice_known-2-1 → tie.After-lies_in
-at-after-lies-in-from-slice-known2 c = c.before.before.before.before.before.before.before.before.before.before
-
-abbrev at-else1-from-slice-known2 : tie.After-slice_known-2-1 → tie.Else-not-lies_in
-at-else1-from-slice-known2 c = c.before.before.before.before.before.before.before.before.before
-
-abbrev at-after-first-reads-from-slice-known2 : tie.After-slice_known-2-1 → tie.After-first_reads-reads
-at-after-first-reads-from-slice-known2 c = c.before.before.before.before.before.before.before.before
-
 lies-in-requires : tie.Need-lies_in-requires
 lies-in-requires c κs = search rules
 
@@ -43,31 +18,31 @@ first-reads-requires c κs = c.requires
 
 returns-2 : tie.Need-returns-then-reads-eq0
 returns-2 c =
-    laid_later (at-start-from-then2 c).args.list.now (at-start-from-then2 c).args.starts.now _ _ _ _ _ _ _ _ c.lies_in.ensures c.if-not-lies_in.false-raw (omega (arith, (at-start-from-then2 c).requires.1)) _ c.first_reads-reads.ensures c.if-reads-eq0.true
+    laid_later c.args.list.now c.args.starts.now _ _ _ _ _ _ _ _ c.lies_in.ensures c.if-not-lies_in.false-raw (omega (arith, c.requires.1)) _ c.first_reads-reads.ensures c.if-reads-eq0.true
 
 mul-from : tie.Need-offset_bounds-froms-i
 mul-from c = search rules
 
 shared-slice-read-from : tie.Need-bounds-froms-i
-shared-slice-read-from c = omega (arith, (at-start-from-shared-slice-known5 c).requires.0.left, (at-start-from-shared-slice-known5 c).requires.1)
+shared-slice-read-from c = omega (arith, c.requires.0.left, c.requires.1)
 
 mul-end : tie.Need-offset_bounds-tos-i
 mul-end c = search rules
 
 shared-slice-read-end : tie.Need-bounds-tos-i
-shared-slice-read-end c = omega (arith, (at-start-from-shared-slice-known6 c).requires.0.right, (at-start-from-shared-slice-known6 c).requires.1)
+shared-slice-read-end c = omega (arith, c.requires.0.right, c.requires.1)
 
 sub-put-name : tie.Need-slice_bounds-put_name-count
 sub-put-name c =
-    ((at-start-from-put-name-arg c).requires.0.stands (at-start-from-put-name-arg c).args.i (omega (arith, (at-start-from-put-name-arg c).requires.1))).ordered
+    (c.requires.0.stands c.args.i (omega (arith, c.requires.1))).ordered
 
 part-put-name-start : tie.Need-slice_bounds-put_name-start
 part-put-name-start c =
-    ((at-start-from-put-name-arg c).requires.0.stands (at-start-from-put-name-arg c).args.i (omega (arith, (at-start-from-put-name-arg c).requires.1))).ordered
+    (c.requires.0.stands c.args.i (omega (arith, c.requires.1))).ordered
 
 part-put-name-end : tie.Need-slice_bounds-put_name-end
 part-put-name-end c =
-    ((at-start-from-put-name-arg c).requires.0.stands (at-start-from-put-name-arg c).args.i (omega (arith, (at-start-from-put-name-arg c).requires.1))).within
+    (c.requires.0.stands c.args.i (omega (arith, c.requires.1))).within
 
 put-name-requires : tie.Need-put_name-requires
 put-name-requires c κs = search rules
@@ -77,7 +52,7 @@ same_length c = c.put_name.ensures.long
 
 returns-3 : tie.Need-returns
 returns-3 c =
-    laid_name (at-start-from-slice-known2 c).args.list.now (at-start-from-slice-known2 c).args.starts.now _ _ _ _ _ _ _ _ (at-after-lies-in-from-slice-known2 c).lies_in.ensures (at-else1-from-slice-known2 c).if-not-lies_in.false-raw (omega (arith, (at-start-from-slice-known2 c).requires.1)) _ (at-after-first-reads-from-slice-known2 c).first_reads-reads.ensures c.if-reads-eq0.false _ _ ((at-start-from-slice-known2 c).requires.0.stands (at-start-from-slice-known2 c).args.i (omega (arith, (at-start-from-slice-known2 c).requires.1))) _ _ c.put_name.ensures
+    laid_name c.args.list.now c.args.starts.now _ _ _ _ _ _ _ _ c.lies_in.ensures c.if-not-lies_in.false-raw (omega (arith, c.requires.1)) _ c.first_reads-reads.ensures c.if-reads-eq0.false _ _ (c.requires.0.stands c.args.i (omega (arith, c.requires.1))) _ _ c.put_name.ensures
 
 pub put_line_name_spec : {M : Type 1} → statement M
 put_line_name_spec = tie.close (tie.spec

@@ -11,20 +11,10 @@ use Rattle.sheet_picks.proofs.sheet.put_files.Statement.{statement}
 use Rattle.sheet_picks.proofs.sheet.put_files.Tie as tie
 
 abbrev invariant-loop : tie.invariant-loop-i
-invariant-loop page₀ at firsts lasts next₀ i₀ key page next i = LinesPut page₀ at 68 (file_lines firsts lasts 0) (length firsts) (file_lines firsts lasts i) page next i
+invariant-loop page₀ at firsts lasts next₀ i₀ page next i = LinesPut page₀ at 68 (file_lines firsts lasts 0) (length firsts) (file_lines firsts lasts i) page next i
 
 abbrev decreases-loop : tie.decreases-loop-i
-decreases-loop page₀ at firsts lasts next₀ i₀ key page next i = length firsts - i
-
--- The way back from a place in the code to the one that the name says.
-abbrev at-start-from-shared-slice-known4 : tie.After-shared_slice_known-in-loop-i-2-1 invariant-loop decreases-loop → tie.Start invariant-loop decreases-loop
-at-start-from-shared-slice-known4 c = c.before.before.before.before.before.before.before.before.before.before
-
-abbrev at-start-from-slice-known2 : tie.After-slice_known-in-loop-i-1 invariant-loop decreases-loop → tie.Start invariant-loop decreases-loop
-at-start-from-slice-known2 c = c.before.before.before.before.before.before.before.before.before.before.before.before.before
-
-abbrev at-loop-from-slice-known2 : tie.After-slice_known-in-loop-i-1 invariant-loop decreases-loop → tie.At-loop-i invariant-loop decreases-loop
-at-loop-from-slice-known2 c = c.before.before.before.before.before.before.before.before.before
+decreases-loop page₀ at firsts lasts next₀ i₀ page next i = length firsts - i
 
 loop-holds : tie.Need-loop-i-init invariant-loop decreases-loop
 loop-holds c = lines_put_none _ _ _ _ _
@@ -39,10 +29,10 @@ mul-put-triple-line : tie.Need-offset_bounds-lasts-i invariant-loop decreases-lo
 mul-put-triple-line c = search rules
 
 shared-slice-read-put-triple-line : tie.Need-bounds-lasts-i invariant-loop decreases-loop
-shared-slice-read-put-triple-line c = omega (arith, (at-start-from-shared-slice-known4 c).requires.0.even)
+shared-slice-read-put-triple-line c = omega (arith, c.requires.0.even)
 
 sub-put-triple-line : tie.Need-overflow_sub-lasts invariant-loop decreases-loop
-sub-put-triple-line c = (at-start-from-shared-slice-known4 c).requires.0.ordered _ c.loop-i-test.true
+sub-put-triple-line c = c.requires.0.ordered _ c.loop-i-test.true
 
 put-triple-line-requires : tie.Need-put_triple_line-next-requires invariant-loop decreases-loop
 put-triple-line-requires c κs = search rules
@@ -55,7 +45,7 @@ loop-less c = search rules
 
 loop-again : tie.Need-loop-i-preserved invariant-loop decreases-loop
 loop-again c =
-    file_put _ _ _ _ (at-start-from-slice-known2 c).requires.0 (at-start-from-slice-known2 c).requires.1 _ _ _ (at-loop-from-slice-known2 c).loop-i.invariant c.loop-i-test.true _ refl _ _ c.put_triple_line-next.ensures
+    file_put _ _ _ _ c.requires.0 c.requires.1 _ _ _ c.loop-i.invariant c.loop-i-test.true _ refl _ _ c.put_triple_line-next.ensures
 
 same_length : tie.Need-shape_of-page invariant-loop decreases-loop
 same_length c = c.loop-i.invariant.long

@@ -10,23 +10,10 @@ use Rattle.sheet_picks.proofs.sheet.put_wants.Statement.{statement}
 use Rattle.sheet_picks.proofs.sheet.put_wants.Tie as tie
 
 abbrev invariant-loop : tie.invariant-loop-i
-invariant-loop page₀ at starts firsts lasts next₀ i₀ key page next i = LinesPut page₀ at 47 (want_lines starts firsts lasts 0) (length firsts) (want_lines starts firsts lasts i) page next i
+invariant-loop page₀ at starts firsts lasts next₀ i₀ page next i = LinesPut page₀ at 47 (want_lines starts firsts lasts 0) (length firsts) (want_lines starts firsts lasts i) page next i
 
 abbrev decreases-loop : tie.decreases-loop-i
-decreases-loop page₀ at starts firsts lasts next₀ i₀ key page next i = length firsts - i
-
--- The way back from a place in the code to the one that the name says.
-abbrev at-start-from-shared-slice-known5 : tie.After-shared_slice_known-in-loop-i-2-1 invariant-loop decreases-loop → tie.Start invariant-loop decreases-loop
-at-start-from-shared-slice-known5 c = c.before.before.before.before.before.before.before.before
-
-abbrev at-start-from-slice-known2 : tie.After-slice_known-in-loop-i-1 invariant-loop decreases-loop → tie.Start invariant-loop decreases-loop
-at-start-from-slice-known2 c = c.before.before.before.before.before.before.before.before.before.before.before.before.before.before.before
-
-abbrev at-loop-from-slice-known2 : tie.After-slice_known-in-loop-i-1 invariant-loop decreases-loop → tie.At-loop-i invariant-loop decreases-loop
-at-loop-from-slice-known2 c = c.before.before.before.before.before.before.before.before.before.before
-
-abbrev at-in-loop-from-slice-known2 : tie.After-slice_known-in-loop-i-1 invariant-loop decreases-loop → tie.In-loop-i invariant-loop decreases-loop
-at-in-loop-from-slice-known2 c = c.before.before.before.before.before.before.before.before.before
+decreases-loop page₀ at starts firsts lasts next₀ i₀ page next i = length firsts - i
 
 loop-holds : tie.Need-loop-i-init invariant-loop decreases-loop
 loop-holds c = lines_put_none _ _ _ _ _
@@ -41,7 +28,7 @@ mul-reads-in-2 : tie.Need-offset_bounds-lasts-i invariant-loop decreases-loop
 mul-reads-in-2 c = search rules
 
 shared-slice-read-reads-in-2 : tie.Need-bounds-lasts-i invariant-loop decreases-loop
-shared-slice-read-reads-in-2 c = omega (arith, (at-start-from-shared-slice-known5 c).requires.0.even)
+shared-slice-read-reads-in-2 c = omega (arith, c.requires.0.even)
 
 reads-in-requires : tie.Need-reads_in-reads-requires invariant-loop decreases-loop
 reads-in-requires c κs = search rules
@@ -60,7 +47,7 @@ loop-less c = search rules
 
 loop-again : tie.Need-loop-i-preserved invariant-loop decreases-loop
 loop-again c =
-    want_put _ _ _ _ _ (at-start-from-slice-known2 c).requires.0 (at-start-from-slice-known2 c).requires.1 _ _ _ (at-loop-from-slice-known2 c).loop-i.invariant (at-in-loop-from-slice-known2 c).loop-i-test.true _ c.reads_in-reads.ensures _ _ c.put_pair_line-next.ensures
+    want_put _ _ _ _ _ c.requires.0 c.requires.1 _ _ _ c.loop-i.invariant c.loop-i-test.true _ c.reads_in-reads.ensures _ _ c.put_pair_line-next.ensures
 
 same_length : tie.Need-shape_of-page invariant-loop decreases-loop
 same_length c = c.loop-i.invariant.long

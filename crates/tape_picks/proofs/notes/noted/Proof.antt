@@ -6,25 +6,29 @@ use borrow.Author.Rules.{rules}
 use Rattle.tape_picks.proofs.notes.noted.Statement.{statement}
 use Rattle.tape_picks.proofs.notes.noted.Tie as tie
 
-returns : tie.Need-returns
+returns : tie.Need-returns-then-not-here
 unfolding noted_pick
-returns c = rw (not-true c.before.args.here c.if1.true)
+returns c = rw (not-true c.args.here c.if-not-here.true-raw)
 
-one-pick-requires : tie.Need-one-pick-requires
+one-pick-requires : tie.Need-one_pick-requires
 one-pick-requires c κs = search rules
 
-returns-2 : tie.Need-returns-2
+returns-2 : tie.Need-returns-then-pick-eq0
 unfolding noted_pick
 returns-2 c =
     rw (
-      not-false c.before.before.before.before.args.here c.before.before.before.if1.false,
-      eq-eqb c.before.before.before.before.args.pick.state 0 c.before.if2.true,
+      not-false c.args.here c.if-not-here.false-raw,
+      eq-eqb c.args.pick.state 0 c.if-pick-eq0.true,
     )
-    c.one-pick.ensures
+    c.one_pick.ensures
 
-returns-3 : tie.Need-returns-3
+returns-3 : tie.Need-returns
 unfolding noted_pick
-returns-3 c = rw (not-false c.before.before.before.args.here c.before.before.if1.false, ne_eqb c.before.before.before.args.pick.state 0 c.if2.false)
+returns-3 c = rw (not-false c.args.here c.if-not-here.false-raw, ne_eqb c.args.pick.state 0 c.if-pick-eq0.false)
 
-pub noted-spec : {M : Type 1} → statement M
-noted-spec = tie.close (tie.spec returns one-pick-requires returns-2 returns-3)
+pub noted_spec : {M : Type 1} → statement M
+noted_spec = tie.close (tie.spec
+    returns
+    one-pick-requires
+    returns-2
+    returns-3)

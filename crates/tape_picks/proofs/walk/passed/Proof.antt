@@ -4,11 +4,13 @@ use borrow.Author.Rules.{rules}
 use Rattle.tape_picks.proofs.walk.passed.Statement.{statement}
 use Rattle.tape_picks.proofs.walk.passed.Tie as tie
 
-no-file-requires : tie.Need-no-file-requires
+no-file-requires : tie.Need-no_file-file-requires
 no-file-requires c κs = search rules
 
 returns : tie.Need-returns
-returns c = rw c.no-file.ensures
+returns c = rw c.no_file-file.ensures
 
-pub passed-spec : {M : Type 1} → statement M
-passed-spec = tie.close (tie.spec no-file-requires returns)
+pub passed_spec : {M : Type 1} → statement M
+passed_spec = tie.close (tie.spec
+    no-file-requires
+    returns)
