@@ -1,10 +1,10 @@
 -- `answer_check::verdict::difference` meets its contract: what is left decides as the whole does. Assumes nothing.
 use Prim.Native.Nat.{◌-◌}
-use mathlib.Core.Logic.{⊎_elim}
 use native.Mathlib.Omega.{arith}
 use lib.ListN.{length}
 use Rattle.answer_check.proofs.Differing.{Differing, differing_none, differs_short, differs_here, same_feed, same_other, differs_end}
 use borrow.Author.Rules.{rules}
+use Rattle.answer_check.proofs.verdict.difference.Lts.{then-plan-i-eq10, else-plan-i-eq10}
 use Rattle.answer_check.proofs.verdict.difference.Statement.{statement}
 use Rattle.answer_check.proofs.verdict.difference.Tie as tie
 
@@ -46,10 +46,10 @@ loop-less c = omega arith
 
 loop-again : tie.Need-loop-i-preserved invariant-loop decreases-loop
 loop-again c =
-    ⊎_elim
-    (λ w. rw (w.1, w.2) (same_feed _ _ _ _ _ c.loop-i.invariant (omega arith) (omega arith) c.if-plan-i.false w.0.taken))
-    (λ w. rw (w.1, w.2) (same_other _ _ _ _ _ c.loop-i.invariant (omega arith) (omega arith) c.if-plan-i.false w.0.left))
-    c.if-plan-i-eq10.branch
+    elim c.if-plan-i-eq10.branch [
+      | then-plan-i-eq10 w ↦ rw (w.line-is, w.start-is) (same_feed _ _ _ _ _ c.loop-i.invariant (omega arith) (omega arith) c.if-plan-i.false w.if-plan-i-eq10.true)
+      | else-plan-i-eq10 w ↦ rw (w.line-is, w.start-is) (same_other _ _ _ _ _ c.loop-i.invariant (omega arith) (omega arith) c.if-plan-i.false w.if-plan-i-eq10.false)
+    ]
 
 returns-3 : tie.Need-returns invariant-loop decreases-loop
 returns-3 c = differs_end _ _ _ _ _ c.loop-i.invariant c.loop-i-test.false
