@@ -50,7 +50,7 @@ module _ (r : Run) (froms tos : List ℕ) (row : List ℤ) where
   of_run_here : (k : Refusal) (p : ℕ) → number_of k ≤ 7 → BuysAnyApplies r froms tos row k p → RunAppliesAny r k p
   of_run_here k p l (BuysAnyApplies.run h) = h
   of_run_here k p l (BuysAnyApplies.bad_list h) = absurd (omega arith)
-  of_run_here k p l (BuysAnyApplies.Short-row h) = absurd (omega arith)
+  of_run_here k p l (BuysAnyApplies.short_row h) = absurd (omega arith)
 
   of_list : (p : ℕ) → BuysAnyApplies r froms tos row BadEntry p → ListIsBadAny r froms tos p
   of_list p (BuysAnyApplies.run h) = absurd (omega (arith, any_small r h))
@@ -58,7 +58,7 @@ module _ (r : Run) (froms tos : List ℕ) (row : List ℤ) where
 
   of_row : (p : ℕ) → BuysAnyApplies r froms tos row ShortRow p → (p ≡ 0) × (length row < length froms)
   of_row p (BuysAnyApplies.run h) = absurd (omega (arith, any_small r h))
-  of_row p (BuysAnyApplies.Short-row h) = (refl, h)
+  of_row p (BuysAnyApplies.short_row h) = (refl, h)
 
   -- A list that is accepted has as many entries as starts.
   entries : refuses (list_verdict_any r.head (stops_of r) froms tos) ≡ false → length (list_of froms tos) ≡ length froms
@@ -72,7 +72,7 @@ module _ (r : Run) (froms tos : List ℕ) (row : List ℤ) where
       (λ a. finds_first (BuysAnyApplies r froms tos row) (short ∷ []) refl
       (decides_reworded (λ p. BuysAnyApplies.bad_list) of_list (decides_list_any r (accepted_any r a) froms tos))
       (λ b. finds_first (BuysAnyApplies r froms tos row) {v = short} [] refl
-      (decides_reworded (λ p h. rw h.0 (BuysAnyApplies.Short-row h.1)) of_row
+      (decides_reworded (λ p h. rw h.0 (BuysAnyApplies.short_row h.1)) of_row
       (rw (entries b) (decides_if (ltb (length row) (length froms)) ShortRow (tells_below (length row) (length froms)))))
       (λ c. finds_none (BuysAnyApplies r froms tos row))))
 

@@ -51,7 +51,7 @@ module _ (r : Run) (froms tos : List ℕ) (row : List ℤ) where
   buys_of_run : (k : Refusal) (p : ℕ) → number_of k ≤ 7 → BuysApplies r froms tos row k p → RunApplies r k p
   buys_of_run k p l (BuysApplies.run h) = h
   buys_of_run k p l (BuysApplies.bad_list h) = absurd (omega arith)
-  buys_of_run k p l (BuysApplies.Short-row h) = absurd (omega arith)
+  buys_of_run k p l (BuysApplies.short_row h) = absurd (omega arith)
 
   buys_list : (p : ℕ) → BuysApplies r froms tos row BadEntry p → ListIsBad r froms tos p
   buys_list p (BuysApplies.run h) = absurd (omega (arith, run_small r h))
@@ -59,7 +59,7 @@ module _ (r : Run) (froms tos : List ℕ) (row : List ℤ) where
 
   buys_row_here : (p : ℕ) → BuysApplies r froms tos row ShortRow p → (p ≡ 0) × (length row < length froms)
   buys_row_here p (BuysApplies.run h) = absurd (omega (arith, run_small r h))
-  buys_row_here p (BuysApplies.Short-row h) = (refl, h)
+  buys_row_here p (BuysApplies.short_row h) = (refl, h)
 
   -- A list that is accepted has as many entries as starts.
   entries : refuses (list_verdict (stops_of r) froms tos) ≡ false → length (list_of froms tos) ≡ length froms
@@ -73,7 +73,7 @@ module _ (r : Run) (froms tos : List ℕ) (row : List ℤ) where
       (λ a. finds_first (BuysApplies r froms tos row) (short ∷ []) refl
       (decides_reworded (λ p. BuysApplies.bad_list) buys_list (decides_list r (accepted_run r a) froms tos (sym (accepted_run r a).wants.equal)))
       (λ b. finds_first (BuysApplies r froms tos row) {v = short} [] refl
-      (decides_reworded (λ p h. rw h.0 (BuysApplies.Short-row h.1)) buys_row_here
+      (decides_reworded (λ p h. rw h.0 (BuysApplies.short_row h.1)) buys_row_here
       (rw (entries b) (decides_if (ltb (length row) (length froms)) ShortRow (tells_below (length row) (length froms)))))
       (λ c. finds_none (BuysApplies r froms tos row))))
 

@@ -129,7 +129,7 @@ module _ (sheet : List ℕ) (none : NoBadLine sheet) where
   many_files = length_each (λ i. first_in file_key (line_after i (file_text sheet))) F
 
   many_wants_here : length held.numbers ≡ W
-  many_wants = length_each (λ i. first_in want_key (line_after i (want_text sheet))) W
+  many_wants_here = length_each (λ i. first_in want_key (line_after i (want_text sheet))) W
 
   file_there_here : (i : ℕ) → after_lines i (file_text sheet) ≡ after_lines (5 + i) sheet
   unfolding file_text

@@ -83,7 +83,7 @@ module _ (name label index row : List ℕ) where
   tape_overlap p (TapeApplies.overlap h) = (refl, h)
 
   tape_row : (p : ℕ) → Applies ShortRow p → (p ≡ 0) × (length row < length (ltfs_sheet name label index))
-  tape_row p (TapeApplies.Short-row h) = (refl, h)
+  tape_row p (TapeApplies.short_row h) = (refl, h)
 
   checks : List Verdict
   checks =
@@ -120,7 +120,7 @@ module _ (name label index row : List ℕ) where
       (λ d. finds_first Applies (short ∷ []) refl
       (decides_reworded (λ p h. rw h.0 (TapeApplies.overlap h.1)) tape_overlap (decides_if _ Overlap (tells_true (some_overlap (tape_table label index)))))
       (λ e. finds_first Applies [] refl
-      (decides_reworded (λ p h. rw h.0 (TapeApplies.Short-row h.1)) tape_row (decides_if _ ShortRow (tells_below (length row) (length (ltfs_sheet name label index)))))
+      (decides_reworded (λ p h. rw h.0 (TapeApplies.short_row h.1)) tape_row (decides_if _ ShortRow (tells_below (length row) (length (ltfs_sheet name label index)))))
       (λ f. finds_none Applies))))))
 
   tape_accepted : refuses (ltfs_verdict name label index row) ≡ false → ltfs_verdict name label index row ≡ accepted

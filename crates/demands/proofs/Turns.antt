@@ -144,7 +144,7 @@ module _ (sheet row : List ℕ) (answer : Written) (out : List ℕ) (says : Shee
   out_is = says.left ∙ rw passes
 
   text_is_here : take answer.bytes out ≡ rewritten sheet
-  text_is = rw (answer_is_here, out_is) (take-append_seam (rewritten sheet) (drop (length (rewritten sheet)) row))
+  text_is_here = rw (answer_is_here, out_is) (take-append_seam (rewritten sheet) (drop (length (rewritten sheet)) row))
 
   later_is_here : drop answer.bytes out ≡ drop answer.bytes row
   later_is_here = rw (answer_is_here, out_is) (drop-append_seam (rewritten sheet) (drop (length (rewritten sheet)) row))

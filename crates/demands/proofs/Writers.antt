@@ -92,7 +92,7 @@ module _ (name : List ℕ) (r : Run) (froms tos sheet row : List ℕ) where
   any_of_run k p l (ListSheetAnyApplies.run h) = h
   any_of_run k p l (ListSheetAnyApplies.bad_name h) = absurd (omega arith)
   any_of_run k p l (ListSheetAnyApplies.bad_list h) = absurd (omega arith)
-  any_of_run k p l (ListSheetAnyApplies.Short-row h) = absurd (omega arith)
+  any_of_run k p l (ListSheetAnyApplies.short_row h) = absurd (omega arith)
 
   any_name : (p : ℕ) → Any BadName p → (p ≡ 0) × (is_name name ≡ false)
   any_name p (ListSheetAnyApplies.run h) = absurd (omega (arith, any_small r h))
@@ -104,7 +104,7 @@ module _ (name : List ℕ) (r : Run) (froms tos sheet row : List ℕ) where
 
   any_row : (p : ℕ) → Any ShortRow p → (p ≡ 0) × (length row < length sheet)
   any_row p (ListSheetAnyApplies.run h) = absurd (omega (arith, any_small r h))
-  any_row p (ListSheetAnyApplies.Short-row h) = (refl, h)
+  any_row p (ListSheetAnyApplies.short_row h) = (refl, h)
 
   abbrev anyListChecks : List Verdict
   anyListChecks = judge_any_of r ∷ refuse_if (not (is_name name)) BadName ∷ list_verdict_any r.head (stops_of r) froms tos ∷ row_verdict sheet row ∷ []
@@ -120,7 +120,7 @@ module _ (name : List ℕ) (r : Run) (froms tos sheet row : List ℕ) where
       (decides_reworded (λ p h. rw h.0 (ListSheetAnyApplies.bad_name h.1)) any_name (decides_if _ BadName (tells_false (is_name name))))
       (λ b. finds_first Any (short ∷ []) refl (decides_reworded (λ p. ListSheetAnyApplies.bad_list) any_list_here (decides_list_any r (accepted_any r a) froms tos))
       (λ c. finds_first Any [] refl
-      (decides_reworded (λ p h. rw h.0 (ListSheetAnyApplies.Short-row h.1)) any_row (decides_if _ ShortRow (tells_below (length row) (length sheet))))
+      (decides_reworded (λ p h. rw h.0 (ListSheetAnyApplies.short_row h.1)) any_row (decides_if _ ShortRow (tells_below (length row) (length sheet))))
       (λ d. finds_none Any))))
 
   any_sheet : (answer : Written) (out : List ℕ) → Handed (first_of anyListChecks) sheet row answer out → WritesItsSheet Any list_sheet_order sheet row answer out

@@ -384,7 +384,7 @@ module _ (sheet : List ℕ) (good : first_bad_loose sheet ≡ 0) (few : length (
 
   pub wants_said_lem : wants_said (mended_text sheet) ≡ length row
   unfolding wants_said
-  wants_said = ap (λ t. number_behind wants_key (line_of t)) tail_again ∙ ap (number_behind wants_key) (line_first wants_key (decimal (length row)) P plain_wants (flat (length row))) ∙ value_back wants_key (length row) small_wants
+  wants_said_lem = ap (λ t. number_behind wants_key (line_of t)) tail_again ∙ ap (number_behind wants_key) (line_first wants_key (decimal (length row)) P plain_wants (flat (length row))) ∙ value_back wants_key (length row) small_wants
 
   body_again : loose_want_text (mended_text sheet) ≡ P
   unfolding loose_want_text after_lines

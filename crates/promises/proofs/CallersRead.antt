@@ -213,7 +213,7 @@ module _ (sheet wanted counts : List ℕ) where
 
   module _ (good : first_bad_loose sheet ≡ 0) where
     turn_line_here : Stands turn_key NumberOrNothing sheet 2
-    turn_line = (tells_turn sheet 2).when_true (described sheet good).turn
+    turn_line_here = (tells_turn sheet 2).when_true (described sheet good).turn
 
     turn_read : value_text turn_key (line_after 2 sheet) ≡ turn_line_here.value
     unfolding has

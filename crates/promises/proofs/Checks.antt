@@ -103,7 +103,7 @@ module _ (plan expected : List ℕ) (run : Run) (froms tos : List ℕ) (list : L
 
   text_is_here : text ≡ line (bytes "formed=") (bytes "yes") ++ (walk_line plan expected ++ (least_line head_anywhere run froms tos list ++ difference_lines plan expected))
   unfolding verdict_lines
-  text_is = simp append_assoc
+  text_is_here = simp append_assoc
 
   line₀ : line_after 0 text ≡ bytes "formed=yes"
   unfolding after_lines has

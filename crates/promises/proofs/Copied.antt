@@ -19,7 +19,7 @@ module _ (text : List ℕ) (ended : has line_feed text ≡ true) where
   behind-it = behind line_feed text
 
   text_is_here : text ≡ before line_feed text ++ (line_feed ∷ behind-it)
-  text_is = split_at line_feed text ended
+  text_is_here = split_at line_feed text ended
 
   first_more : (n : ℕ) → first_lines (suc n) text ≡ before line_feed text ++ (line_feed ∷ first_lines n behind-it)
   first_more n =

@@ -140,7 +140,7 @@ not_both a s = let e : ◌≡◌ {A = ℕ} 0 8 = ap number_of (sym a ∙ s) in o
 
 -- 8 of the row of records.
 row_short : {len : ℕ} {row : List Ticket} {l : Lasts} {p : ℕ} → 32 ≤ len → RowApplies len row l ShortRow p → ⊥
-row_short long (RowApplies.Short-row s) = omega arith
+row_short long (RowApplies.short_row s) = omega arith
 
 filing_short : {len : ℕ} {row : List Ticket} {f : Filing} {p : ℕ} → 32 ≤ len → FilingApplies len row f ShortRow p → ⊥
 filing_short long (FilingApplies.records h) = row_short long h
@@ -261,7 +261,7 @@ only_desk : {kind : Refusal} → OnlyTheRun kind → (kind ≡ ShortRow → ⊥)
 only_desk OnlyTheRun.nothing s r = AtTheDesk.nothing
 only_desk OnlyTheRun.turn_price s r = AtTheDesk.turn_price
 only_desk OnlyTheRun.head_place s r = AtTheDesk.head_place
-only_desk OnlyTheRun.Short-row s r = absurd (s refl)
+only_desk OnlyTheRun.short_row s r = absurd (s refl)
 only_desk OnlyTheRun.short_room s r = absurd (r refl)
 
 -- 9 comes last, behind 5.
