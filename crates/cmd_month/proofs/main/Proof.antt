@@ -5,31 +5,31 @@ use borrow.Author.Rules.{rules}
 use Rattle.cmd_month.proofs.main.Statement.{statement}
 use Rattle.cmd_month.proofs.main.Tie as tie
 
-abbrev invariant-loop : tie.invariant-loop
+abbrev invariant-loop : tie.invariant-loop-turns
 invariant-loop turn₀ turns₀ turn turns = Unit {0}
 
-abbrev decreases-loop : tie.decreases-loop
+abbrev decreases-loop : tie.decreases-loop-turns
 decreases-loop turn₀ turns₀ turn turns = 1001 - turns
 
-empty-month-requires : tie.Need-empty-month-requires invariant-loop decreases-loop
+empty-month-requires : tie.Need-empty_month-requires invariant-loop decreases-loop
 empty-month-requires c κs = search rules
 
-loop-holds : tie.Need-loop-init invariant-loop decreases-loop
+loop-holds : tie.Need-loop-turns-init invariant-loop decreases-loop
 loop-holds c = tt
 
-take-part-requires : tie.Need-take-part-requires invariant-loop decreases-loop
+take-part-requires : tie.Need-take_part-turn-requires invariant-loop decreases-loop
 take-part-requires c κs = search rules
 
-add-turns : tie.Need-overflow-add-turns invariant-loop decreases-loop
+add-turns : tie.Need-overflow_add-turns invariant-loop decreases-loop
 add-turns c = search rules
 
-loop-less : tie.Need-loop-smaller invariant-loop decreases-loop
+loop-less : tie.Need-loop-turns-smaller invariant-loop decreases-loop
 loop-less c = search rules
 
-loop-again : tie.Need-loop-preserved invariant-loop decreases-loop
+loop-again : tie.Need-loop-turns-preserved invariant-loop decreases-loop
 loop-again c = tt
 
-print-page-requires : tie.Need-print-page-requires invariant-loop decreases-loop
+print-page-requires : tie.Need-print_page-requires invariant-loop decreases-loop
 print-page-requires c κs = search rules
 
 returns : tie.Need-returns invariant-loop decreases-loop
