@@ -45,7 +45,7 @@ module _ (row : List Ticket) (all : length row ≡ 32) (ones twos : ℕ) (waiter
 
   text_is_here : waits_lines 0 (take ones (drop 0 row)) ++ waits_lines 0 (take twos (drop 16 row)) ++ pair_line waiting_key ones twos ≡ waiting_text row
   unfolding waiting_text
-  text_is = rw (waiters.at_one, waiters.at_two, one_many, two_many) refl
+  text_is_here = rw (waiters.at_one, waiters.at_two, one_many, two_many) refl
 
   pub text_wrote : (page page₁ page₂ page₃ : List ℕ) (at₁ at₂ at₃ : ℕ)
       → 4274 ≤ length page
