@@ -1,4 +1,4 @@
--- Laws that this crate's proofs share, and the part of the derived walks that a caller cites.
+-- Laws that this crate's proofs share.
 pub mod Places
 pub mod Copying
 pub mod Thin
@@ -6,4 +6,3 @@ pub mod Determined
 pub mod Kept
 pub mod Events
 pub mod Remarks
-pub mod Walks

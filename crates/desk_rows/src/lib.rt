@@ -1,6 +1,5 @@
 // desk_rows: the waiting table in a lent row of records, for two offices: filing, withdrawing, boarding, and an event of a day at the desk. Thin: the first 32
-// records are copied out, the work is done by value, and they are copied back. The walks of the functions over the row are derived by tools/derive.py;
-// after a change of their text they are derived again.
+// records are copied out, the work is done by value, and they are copied back.
 #![tactic(auto)]
 
 ghost use Rattle.std.specs.Prelude.{◌≡◌, min, replicate};

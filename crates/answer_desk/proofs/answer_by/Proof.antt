@@ -11,14 +11,14 @@ refused-requires c κs = search rules
 refuse-requires : tie.Need-refuse-requires
 refuse-requires c κs = search rules
 
-returns : tie.Need-returns
-returns c = rw (sym c.before.before.refused.ensures ∙ c.before.if1.true) c.refuse.ensures
+returns : tie.Need-returns-then-refused
+returns c = rw (sym c.refused.ensures ∙ c.if-refused.true) c.refuse.ensures
 
-returns-2 : tie.Need-returns-2
-returns-2 c = rw (sym c.before.refused.ensures ∙ c.if1.false)
+returns-2 : tie.Need-returns
+returns-2 c = rw (sym c.refused.ensures ∙ c.if-refused.false)
 
-pub answer-by-spec : {M : Type 1} → statement M
-answer-by-spec =
+pub answer_by_spec : {M : Type 1} → statement M
+answer_by_spec =
     tie.close
     (tie.spec
     refused-requires

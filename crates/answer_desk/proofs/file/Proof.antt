@@ -6,10 +6,10 @@ use Rattle.answer_desk.proofs.file.Statement.{statement}
 use Rattle.answer_desk.proofs.file.Tie as tie
 
 -- From the test of the verdict back to the work by value.
-abbrev worked : tie.After-refused → tie.After-file-in
+abbrev worked : tie.After-refused → tie.After-file_in-done
 worked f = f.before.before.before
 
-file-in-requires : tie.Need-file-in-requires
+file-in-requires : tie.Need-file_in-done-requires
 file-in-requires c κs = search rules
 
 refused-requires : tie.Need-refused-requires
@@ -18,44 +18,40 @@ refused-requires c κs = search rules
 refuse-requires : tie.Need-refuse-requires
 refuse-requires c κs = search rules
 
-returns : tie.Need-returns
+returns : tie.Need-returns-then-refused
 returns c =
-    let t = c.before in
-    let f = t.before in
-    let w = worked f in
-    let a = w.before.before.before.args in
-    filing_refused a.len a.day _ _ _ a.filing w.file-in.result w.file-in.ensures f.refused.ensures t.if1.true c.refuse.ensures
+    let t = c in
+    let f = t in
+    let w = worked f.before.before in
+    let a = w.args in
+    filing_refused a.len a.day _ _ _ a.filing w.file_in-done.result w.file_in-done.ensures f.refused.ensures t.if-refused.true c.refuse.ensures
 
-slice-aggregate-say-pair : tie.Need-slice-aggregate-say-pair
-slice-aggregate-say-pair c = search rules
-
-say-pair-requires : tie.Need-say-pair-requires
+say-pair-requires : tie.Need-say_pair-written-requires
 say-pair-requires c κs = search rules
 
-answer-by-requires : tie.Need-answer-by-requires
+answer-by-requires : tie.Need-answer_by-requires
 answer-by-requires c κs = search rules
 
-same_length : tie.Need-same-length
-same_length c = c.before.before.before.before.before.say-pair.auto.1.1.1.0
+same_length : tie.Need-shape_of-out
+same_length c = c.say_pair-written.auto.out
 
-returns-2 : tie.Need-returns-2
+returns-2 : tie.Need-returns
 returns-2 c =
-    let s = c.before.before.before.before.before in
-    let e = s.before.before.before in
-    let f = e.before in
-    let w = worked f in
-    let a = w.before.before.before.args in
-    filing_said a.len a.day _ _ _ a.filing w.file-in.result w.file-in.ensures f.refused.ensures e.if1.false _ _ s.say-pair.ensures c.answer-by.ensures
+    let s = c in
+    let e = s in
+    let f = e in
+    let w = worked f.before.before.before.before.before.before.before.before.before.before in
+    let a = w.args in
+    filing_said a.len a.day _ _ _ a.filing w.file_in-done.result w.file_in-done.ensures f.refused.ensures e.if-refused.false _ _ s.say_pair-written.ensures c.answer_by.ensures
 
-pub file-spec : {M : Type 1} → statement M
-file-spec =
+pub file_spec : {M : Type 1} → statement M
+file_spec =
     tie.close
     (tie.spec
     file-in-requires
     refused-requires
     refuse-requires
     returns
-    slice-aggregate-say-pair
     say-pair-requires
     answer-by-requires
     same_length

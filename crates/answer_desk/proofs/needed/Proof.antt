@@ -6,17 +6,17 @@ use borrow.Author.Rules.{rules}
 use Rattle.answer_desk.proofs.needed.Statement.{statement}
 use Rattle.answer_desk.proofs.needed.Tie as tie
 
-returns : tie.Need-returns
-returns c = inl (refl, c.if1.true)
+returns : tie.Need-returns-then-row-ge-MOST_TEXT
+returns c = inl (refl, c.if-row-ge-MOST_TEXT.true)
 
 rehearse-requires : tie.Need-rehearse-requires
 rehearse-requires c κs = search rules
 
-returns-2 : tie.Need-returns-2
+returns-2 : tie.Need-returns
 returns-2 c = inr c.rehearse.ensures
 
-pub needed-spec : {M : Type 1} → statement M
-needed-spec =
+pub needed_spec : {M : Type 1} → statement M
+needed_spec =
     tie.close
     (tie.spec
     returns

@@ -6,14 +6,17 @@ use borrow.Author.Rules.{rules}
 use Rattle.boundary_desk.proofs.lasts_in.Statement.{statement}
 use Rattle.boundary_desk.proofs.lasts_in.Tie as tie
 
-word-at-requires : tie.Need-word-at-requires
+word-at-requires : tie.Need-word_at-one-requires
 word-at-requires c κs = search rules
 
-word-at-requires-2 : tie.Need-word-at-requires-2
+word-at-requires-2 : tie.Need-word_at-two-requires
 word-at-requires-2 c κs = search rules
 
 returns : tie.Need-returns
-returns c = lasts_so c.before.word_at.ensures c.word-at2.ensures
+returns c = lasts_so c.word_at-one.ensures c.word_at-two.ensures
 
-pub lasts-in-spec : {M : Type 1} → statement M
-lasts-in-spec = tie.close (tie.spec word-at-requires word-at-requires-2 returns)
+pub lasts_in_spec : {M : Type 1} → statement M
+lasts_in_spec = tie.close (tie.spec
+    word-at-requires
+    word-at-requires-2
+    returns)

@@ -4,11 +4,13 @@ use borrow.Author.Tests.{lt-ltb, le-ltb}
 use Rattle.boundary_desk.proofs.places_if.Statement.{statement}
 use Rattle.boundary_desk.proofs.places_if.Tie as tie
 
-returns : tie.Need-returns
-returns c = let a = c.before.args in rw (lt-ltb a.words a.least c.if1.true)
+returns : tie.Need-returns-then-words-least
+returns c = let a = c.args in rw (lt-ltb a.words a.least c.if-words-least.true)
 
-returns-2 : tie.Need-returns-2
-returns-2 c = let a = c.before.args in rw (le-ltb a.words a.least c.if1.false)
+returns-2 : tie.Need-returns
+returns-2 c = let a = c.args in rw (le-ltb a.words a.least c.if-words-least.false)
 
-pub places-if-spec : {M : Type 1} → statement M
-places-if-spec = tie.close (tie.spec returns returns-2)
+pub places_if_spec : {M : Type 1} → statement M
+places_if_spec = tie.close (tie.spec
+    returns
+    returns-2)

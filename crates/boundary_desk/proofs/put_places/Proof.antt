@@ -10,62 +10,62 @@ use borrow.Author.Rules.{rules}
 use Rattle.boundary_desk.proofs.put_places.Statement.{statement}
 use Rattle.boundary_desk.proofs.put_places.Tie as tie
 
-abbrev invariant-loop : tie.invariant-loop
+abbrev invariant-loop : tie.invariant-loop-i
 invariant-loop taken₀ at first n numbers row i₀ taken i = Placing taken₀ at (places_of numbers (take n (drop first row))) n taken i
 
-abbrev decreases-loop : tie.decreases-loop
+abbrev decreases-loop : tie.decreases-loop-i
 decreases-loop taken₀ at first n numbers row i₀ taken i = n - i
 
-long : (s : tie.Start invariant-loop decreases-loop) → length s.args.t3 ≡ 32
+long : (s : tie.Start invariant-loop decreases-loop) → length s.args.row ≡ 32
 long s = search rules
 
-loop-holds : tie.Need-loop-init invariant-loop decreases-loop
+loop-holds : tie.Need-loop-i-init invariant-loop decreases-loop
 loop-holds c = placing_none _ _ _ _
 
-add-t : tie.Need-overflow-add-t invariant-loop decreases-loop
-add-t c = omega (arith, c.before.before.before.requires.0)
+add-t : tie.Need-overflow_add-t invariant-loop decreases-loop
+add-t c = omega (arith, c.requires.0)
 
-mul-t : tie.Need-overflow-mul-t invariant-loop decreases-loop
-mul-t c = omega (arith, c.before.before.before.requires.0)
+mul-t : tie.Need-offset_bounds-row-first invariant-loop decreases-loop
+mul-t c = omega (arith, c.requires.0)
 
-array-copy-out-t : tie.Need-array-copy-out-t invariant-loop decreases-loop
-array-copy-out-t c = omega (arith, c.before.before.before.requires.0)
+array-copy-out-t : tie.Need-bounds-row-first invariant-loop decreases-loop
+array-copy-out-t c = omega (arith, c.requires.0)
 
-want-place-requires : tie.Need-want-place-requires invariant-loop decreases-loop
+want-place-requires : tie.Need-want_place-place-requires invariant-loop decreases-loop
 want-place-requires c κs = search rules
 
-add-taken : tie.Need-overflow-add-taken invariant-loop decreases-loop
-add-taken c = let l = c.before.before in omega (arith, l.loop-test.true, l.before.before.before.requires.1)
+add-taken : tie.Need-overflow_add-taken invariant-loop decreases-loop
+add-taken c = let l = c in omega (arith, l.loop-i-test.true, l.requires.1)
 
-mul-taken : tie.Need-overflow-mul-taken invariant-loop decreases-loop
-mul-taken c = let l = c.before.before in omega (arith, l.loop-test.true, l.before.before.before.requires.1)
+mul-taken : tie.Need-offset_bounds-taken-at invariant-loop decreases-loop
+mul-taken c = let l = c in omega (arith, l.loop-i-test.true, l.requires.1)
 
-slice-write-taken : tie.Need-slice-write-taken invariant-loop decreases-loop
-slice-write-taken c = let l = c.before.before in omega (arith, l.loop-test.true, l.before.before.before.requires.1, l.before.loop.invariant.same)
+slice-write-taken : tie.Need-bounds-taken-at invariant-loop decreases-loop
+slice-write-taken c = let l = c in omega (arith, l.loop-i-test.true, l.requires.1, l.loop-i.invariant.same)
 
-add-i : tie.Need-overflow-add-i invariant-loop decreases-loop
+add-i : tie.Need-overflow_add-i invariant-loop decreases-loop
 add-i c = search rules
 
-loop-less : tie.Need-loop-smaller invariant-loop decreases-loop
+loop-less : tie.Need-loop-i-smaller invariant-loop decreases-loop
 loop-less c = search rules
 
-loop-again : tie.Need-loop-preserved invariant-loop decreases-loop
+loop-again : tie.Need-loop-i-preserved invariant-loop decreases-loop
 loop-again c =
-    let l = c.before.before in
-    let s = l.before.before.before in
+    let l = c in
+    let s = l in
     let a = s.args in
-    placing_more a.taken.now a.at (places_of a.numbers (take a.n (drop a.first a.t3))) a.n _ _ l.before.loop.invariant l.loop-test.true
-    (places_long a.numbers a.t3 (long s) a.first a.n s.requires.0) s.requires.1 _ _
-    (c.want-place.ensures ∙ place_there a.numbers a.t3 (long s) a.first a.n s.requires.0 l.before.loop.i l.loop-test.true)
+    placing_more a.taken.now a.at (places_of a.numbers (take a.n (drop a.first a.row))) a.n _ _ l.loop-i.invariant l.loop-i-test.true
+    (places_long a.numbers a.row (long s.before.before.before.before.before) a.first a.n s.requires.0) s.requires.1 _ _
+    (c.want_place-place.ensures ∙ place_there a.numbers a.row (long s.before.before.before.before.before) a.first a.n s.requires.0 l.loop-i.i l.loop-i-test.true)
 
-same_length : tie.Need-same-length invariant-loop decreases-loop
-same_length c = c.before.loop.invariant.same
+same_length : tie.Need-shape_of-taken invariant-loop decreases-loop
+same_length c = c.loop-i.invariant.same
 
 returns : tie.Need-returns invariant-loop decreases-loop
-returns c = placing_all _ _ _ _ _ _ c.before.loop.invariant c.loop-test.false
+returns c = placing_all _ _ _ _ _ _ c.loop-i.invariant c.loop-i-test.false
 
-pub put-places-spec : {M : Type 1} → statement M
-put-places-spec =
+pub put_places_spec : {M : Type 1} → statement M
+put_places_spec =
     tie.close
     (tie.spec
     invariant-loop

@@ -13,56 +13,56 @@ use Rattle.boundary_desk.proofs.put_taken.Statement.{statement}
 use Rattle.boundary_desk.proofs.put_taken.Tie as tie
 
 -- The way back from a place in the code to the one that the name says.
-abbrev at-start : tie.After-put-places → tie.Start
+abbrev at-start : tie.After-put_places → tie.Start
 at-start c = c.before.before.before.before.before.before
 
-abbrev at_first : tie.After-put-places2 → tie.After-put-places
+abbrev at_first : tie.After-put_places-2 → tie.After-put_places
 at_first c = c.before.before.before.before.before
 
 long : (s : tie.Start) → length s.args.row ≡ 32
 long s = search rules
 
-slice-write-taken : tie.Need-slice-write-taken
+slice-write-taken : tie.Need-bounds-taken-0
 slice-write-taken c = search rules
 
-slice-write-taken-2 : tie.Need-slice-write-taken-2
-slice-write-taken-2 c = simp length-set (omega (arith, c.before.before.before.before.requires.1))
+slice-write-taken-2 : tie.Need-bounds-taken-1
+slice-write-taken-2 c = simp length-set (omega (arith, c.requires.1))
 
-put-places-requires : tie.Need-put-places-requires
+put-places-requires : tie.Need-put_places-requires
 put-places-requires c κs =
-    let s = c.before.before.before.before.before in
+    let s = c in
     (omega (arith, s.requires.0.few), omega (arith, s.requires.0.few, s.requires.1, two_set_long s.args.boarded.taken.one s.args.boarded.taken.two s.args.taken.now))
 
-add-put-places : tie.Need-overflow-add-put-places
+add-put-places : tie.Need-overflow_add-who
 add-put-places c = search rules
 
-put-places-requires-2 : tie.Need-put-places-requires-2
+put-places-requires-2 : tie.Need-put_places-requires-2
 put-places-requires-2 c κs =
-    let pp = c.before.before.before.before in
-    let s = at-start pp in
-    (omega (arith, s.pre.0.few), omega (arith, s.pre.0.few, s.pre.1, pp.put-places.auto.0, two_set_long s.args.boarded.taken.one s.args.boarded.taken.two s.args.taken.now))
+    let pp = c in
+    let s = at-start pp.before.before.before.before in
+    (omega (arith, s.requires.0.few), omega (arith, s.requires.0.few, s.requires.1, pp.put_places.auto.taken, two_set_long s.args.boarded.taken.one s.args.boarded.taken.two s.args.taken.now))
 
-same_length : tie.Need-same-length
+same_length : tie.Need-shape_of-taken
 same_length c =
-    let p2 = c.before.before in
-    let pp = at_first p2 in
+    let p2 = c in
+    let pp = at_first p2.before.before in
     let s = at-start pp in
-    p2.put-places2.auto.0 ∙ pp.put-places.kept.0 ∙ two_set_long s.args.boarded.taken.one s.args.boarded.taken.two s.args.taken.now
+    p2.put_places-2.auto.taken ∙ pp.put_places.auto.taken ∙ two_set_long s.args.boarded.taken.one s.args.boarded.taken.two s.args.taken.now
 
 returns : tie.Need-returns
 returns c =
-    let p2 = c.before.before in
-    let pp = at_first p2 in
+    let p2 = c in
+    let pp = at_first p2.before.before in
     let s = at-start pp in
     let a = s.args in
     let b = a.boarded in
-    taken_so a.row (long s) b s.pre.0 a.taken.now s.pre.1 _ _
-    (pp.put-places.ensures
-    ∙ ap (λ (x : List ℕ). paste x 2 (s1 a.row (long s) b s.pre.0 a.taken.now s.pre.1) b.taken.one) (two_set b.taken.one b.taken.two a.taken.now (omega (arith, s.pre.1))))
-    p2.put-places2.ensures
+    taken_so a.row (long s) b s.requires.0 a.taken.now s.requires.1 _ _
+    (pp.put_places.ensures
+    ∙ ap (λ (x : List ℕ). paste x 2 (s1 a.row (long s) b s.requires.0 a.taken.now s.requires.1) b.taken.one) (two_set b.taken.one b.taken.two a.taken.now (omega (arith, s.requires.1))))
+    p2.put_places-2.ensures
 
-pub put-taken-spec : {M : Type 1} → statement M
-put-taken-spec =
+pub put_taken_spec : {M : Type 1} → statement M
+put_taken_spec =
     tie.close
     (tie.spec
     slice-write-taken

@@ -5,32 +5,32 @@ use borrow.Author.Rules.{rules}
 use Rattle.boundary_desk.proofs.record_at.Statement.{statement}
 use Rattle.boundary_desk.proofs.record_at.Tie as tie
 
-mul_words : tie.Need-overflow-mul-words
+mul_words : tie.Need-offset_bounds-tickets-i
 mul_words c = search rules
 
-shared-slice-copy-out-words : tie.Need-shared-slice-copy-out-words
+shared-slice-copy-out-words : tie.Need-bounds-tickets-i
 shared-slice-copy-out-words c = search rules
 
-array-read-t11 : tie.Need-array-read-t11
+array-read-t11 : tie.Need-bounds-words-0
 array-read-t11 c = search rules
 
-array-read-t14 : tie.Need-array-read-t14
+array-read-t14 : tie.Need-bounds-words-1
 array-read-t14 c = search rules
 
-array-read-t17 : tie.Need-array-read-t17
+array-read-t17 : tie.Need-bounds-words-2
 array-read-t17 c = search rules
 
-array-read-t20 : tie.Need-array-read-t20
+array-read-t20 : tie.Need-bounds-words-3
 array-read-t20 c = search rules
 
-returns : tie.Need-returns
+returns : tie.Need-returns-then-i-tickets
 returns c = search rules
 
-returns-2 : tie.Need-returns-2
-returns-2 c = let a = c.before.args in record_past a.tickets.now a.i c.if1.false
+returns-2 : tie.Need-returns
+returns-2 c = let a = c.args in record_past a.tickets.now a.i c.if-i-tickets.false
 
-pub record-at-spec : {M : Type 1} → statement M
-record-at-spec =
+pub record_at_spec : {M : Type 1} → statement M
+record_at_spec =
     tie.close
     (tie.spec
     mul_words

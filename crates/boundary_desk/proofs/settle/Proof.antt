@@ -9,62 +9,62 @@ use Rattle.boundary_desk.proofs.settle.Statement.{statement}
 use Rattle.boundary_desk.proofs.settle.Tie as tie
 
 -- The way back from a place in the code to the one that the name says.
-abbrev at-start : tie.After-code-of → tie.Start
+abbrev at-start : tie.After-code_of-code → tie.Start
 at-start c = c.before.before.before.before.before
 
-abbrev at-if1 : tie.After-fill-sums-arg → tie.Else1
+abbrev at-if1 : tie.After-fill_sums-arg-1 → tie.Else-refused
 at-if1 c = c.before.before.before.before.before.before.before.before.before
 
-accepts : (e : tie.Else1) → is_refusal (at-start e.before.before).args.done.boarded.answer.refusal ≡ false
-accepts e = sym e.before.refused.ensures ∙ e.if1.false
+accepts : (e : tie.Else-refused) → is_refusal (at-start e.before.before).args.done.boarded.answer.refusal ≡ false
+accepts e = sym e.refused.ensures ∙ e.if-refused.false
 
-code-of-requires : tie.Need-code-of-requires
+code-of-requires : tie.Need-code_of-code-requires
 code-of-requires c κs = search rules
 
 refused-requires : tie.Need-refused-requires
 refused-requires c κs = search rules
 
-returns : tie.Need-returns
+returns : tie.Need-returns-then-refused
 returns c =
-    let f = c.before in
-    let d = f.before in
-    let a = (at-start d).args in
-    settled_refused a.row a.done a.tickets.now a.taken.now a.sums.now _ d.code_of_lem.ensures _ f.refused.ensures c.if1.true
+    let f = c in
+    let d = f in
+    let a = (at-start d.before.before).args in
+    settled_refused a.row a.done a.tickets.now a.taken.now a.sums.now _ d.code_of-code.ensures _ f.refused.ensures c.if-refused.true
 
-put-table-requires : tie.Need-put-table-requires
-put-table-requires c κs = let e = c.before.before in (at-start e.before.before).requires.records (accepts e)
+put-table-requires : tie.Need-put_table-requires
+put-table-requires c κs = let e = c in (at-start e.before.before.before.before).requires.records (accepts e.before.before)
 
-put-taken-requires : tie.Need-put-taken-requires
+put-taken-requires : tie.Need-put_taken-requires
 put-taken-requires c κs =
-    let e = c.before.before.before.before.before in
-    let s = at-start e.before.before in
-    (s.pre.leaves (accepts e), s.pre.words (accepts e))
+    let e = c in
+    let s = at-start e.before.before.before.before.before.before.before in
+    (s.requires.leaves (accepts e.before.before.before.before.before), s.requires.words (accepts e.before.before.before.before.before))
 
-fill-sums-requires : tie.Need-fill-sums-requires
+fill-sums-requires : tie.Need-fill_sums-requires
 fill-sums-requires c κs = let e = at-if1 c in (at-start e.before.before).requires.four (accepts e)
 
-same_length : tie.Need-same-length
-same_length c = let k = c.before.before.before.before.before.before in k.before.before.before.put-table.auto.0
+same_length : tie.Need-shape_of-tickets
+same_length c = let k = c in k.put_table.auto.tickets
 
-same-length-2 : tie.Need-same-length-2
-same-length-2 c = c.before.before.before.before.before.before.put-taken.auto.0
+same-length-2 : tie.Need-shape_of-taken
+same-length-2 c = c.put_taken.auto.taken
 
-same-length-3 : tie.Need-same-length-3
-same-length-3 c = c.before.before.fill-sums.auto.1.0
+same-length-3 : tie.Need-shape_of-sums
+same-length-3 c = c.fill_sums.auto.sums
 
-returns-2 : tie.Need-returns-2
+returns-2 : tie.Need-returns
 returns-2 c =
-    let q = c.before.before in
-    let k = q.before.before.before.before in
-    let t = k.before.before.before in
-    let e = t.before.before.before in
-    let f = e.before in
-    let d = f.before in
-    let a = (at-start d).args in
-    settled_done a.row a.done a.tickets.now a.taken.now a.sums.now _ d.code_of_lem.ensures _ f.refused.ensures e.if1.false _ t.put-table.ensures _ k.put-taken.ensures _ q.fill-sums.ensures
+    let q = c in
+    let k = q in
+    let t = k in
+    let e = t in
+    let f = e in
+    let d = f in
+    let a = (at-start d.before.before.before.before.before.before.before.before.before.before.before.before.before.before).args in
+    settled_done a.row a.done a.tickets.now a.taken.now a.sums.now _ d.code_of-code.ensures _ f.refused.ensures e.if-refused.false _ t.put_table.ensures _ k.put_taken.ensures _ q.fill_sums.ensures
 
-pub settle-spec : {M : Type 1} → statement M
-settle-spec =
+pub settle_spec : {M : Type 1} → statement M
+settle_spec =
     tie.close
     (tie.spec
     code-of-requires

@@ -11,52 +11,52 @@ use borrow.Author.Rules.{rules}
 use Rattle.boundary_desk.proofs.want_place.Statement.{statement}
 use Rattle.boundary_desk.proofs.want_place.Tie as tie
 
-abbrev invariant-loop : tie.invariant-loop
+abbrev invariant-loop : tie.invariant-loop-i
 invariant-loop file numbers i₀ i = (i ≤ 8) × Sought file numbers i
 
-abbrev decreases-loop : tie.decreases-loop
+abbrev decreases-loop : tie.decreases-loop-i
 decreases-loop file numbers i₀ i = 8 - i
 
-long : (s : tie.Start invariant-loop decreases-loop) → length s.args.t2 ≡ 8
+long : (s : tie.Start invariant-loop decreases-loop) → length s.args.numbers ≡ 8
 long s = search rules
 
-loop-holds : tie.Need-loop-init invariant-loop decreases-loop
-loop-holds c = (search rules, sought_none c.args.file c.args.t2)
+loop-holds : tie.Need-loop-i-init invariant-loop decreases-loop
+loop-holds c = (search rules, sought_none c.args.file c.args.numbers)
 
-mul-if1 : tie.Need-overflow-mul-if1 invariant-loop decreases-loop
+mul-if1 : tie.Need-offset_bounds-numbers-i invariant-loop decreases-loop
 mul-if1 c = search rules
 
-array-read-if1 : tie.Need-array-read-if1 invariant-loop decreases-loop
+array-read-if1 : tie.Need-bounds-numbers-i invariant-loop decreases-loop
 array-read-if1 c = search rules
 
-add-result : tie.Need-overflow-add-result invariant-loop decreases-loop
+add-result : tie.Need-overflow_add-result invariant-loop decreases-loop
 add-result c = search rules
 
-returns : tie.Need-returns invariant-loop decreases-loop
+returns : tie.Need-returns-then-numbers-i invariant-loop decreases-loop
 returns c =
-    let t = c.before in
-    let a = t.before in
-    let s = a.before in
-    add-one a.loop.i
-    ∙ ap suc (sought_here s.args.file s.args.t2 a.loop.i a.loop.invariant.1 (rw (long s) t.loop-test.true) (eq-eqb _ _ c.if1.true))
+    let t = c in
+    let a = t in
+    let s = a in
+    add-one a.loop-i.i
+    ∙ ap suc (sought_here s.args.file s.args.numbers a.loop-i.i a.loop-i.invariant.1 (rw (long s.before.before.before) t.loop-i-test.true) (eq-eqb _ _ c.if-numbers-i.true))
 
-add-i : tie.Need-overflow-add-i invariant-loop decreases-loop
+add-i : tie.Need-overflow_add-i invariant-loop decreases-loop
 add-i c = search rules
 
-loop-less : tie.Need-loop-smaller invariant-loop decreases-loop
+loop-less : tie.Need-loop-i-smaller invariant-loop decreases-loop
 loop-less c = search rules
 
-loop-again : tie.Need-loop-preserved invariant-loop decreases-loop
-loop-again c = let t = c.before in let a = t.before in let s = a.before in (omega (arith, t.loop-test.true), sought_more s.args.file s.args.t2 a.loop.i a.loop.invariant.1 (rw (long s) t.loop-test.true) (ne_eqb _ _ c.if1.false))
+loop-again : tie.Need-loop-i-preserved invariant-loop decreases-loop
+loop-again c = let t = c in let a = t in let s = a in (omega (arith, t.loop-i-test.true), sought_more s.args.file s.args.numbers a.loop-i.i a.loop-i.invariant.1 (rw (long s.before.before.before) t.loop-i-test.true) (ne_eqb _ _ c.if-numbers-i.false))
 
-returns-2 : tie.Need-returns-2 invariant-loop decreases-loop
+returns-2 : tie.Need-returns invariant-loop decreases-loop
 returns-2 c =
-    let a = c.before in
-    let s = a.before in
-    omega (arith, a.loop.invariant.0, c.loop-test.false, sought_all s.args.file s.args.t2 a.loop.i a.loop.invariant.1 (rw (long s) c.loop-test.false))
+    let a = c in
+    let s = a in
+    omega (arith, a.loop-i.invariant.0, c.loop-i-test.false, sought_all s.args.file s.args.numbers a.loop-i.i a.loop-i.invariant.1 (rw (long s.before.before) c.loop-i-test.false))
 
-pub want-place-spec : {M : Type 1} → statement M
-want-place-spec =
+pub want_place_spec : {M : Type 1} → statement M
+want_place_spec =
     tie.close
     (tie.spec
     invariant-loop

@@ -4,46 +4,40 @@ use Rattle.std.proofs.Common.{◌-◌, rules}
 use Rattle.check_desk.proofs.main.Statement.{statement}
 use Rattle.check_desk.proofs.main.Tie as tie
 
-abbrev invariant-loop : tie.invariant-loop
-invariant-loop day₀ first₀ t3 t4 day first = Unit {0}
+abbrev invariant-loop : tie.invariant-loop-first
+invariant-loop day₀ first₀ day first = Unit {0}
 
-abbrev decreases-loop : tie.decreases-loop
-decreases-loop day₀ first₀ t3 t4 day first = 1500 - first
+abbrev decreases-loop : tie.decreases-loop-first
+decreases-loop day₀ first₀ day first = 1500 - first
 
-loop-holds : tie.Need-loop-init invariant-loop decreases-loop
+loop-holds : tie.Need-loop-first-init invariant-loop decreases-loop
 loop-holds c = tt
 
-fifty-requires : tie.Need-fifty-requires invariant-loop decreases-loop
+fifty-requires : tie.Need-fifty-day-requires invariant-loop decreases-loop
 fifty-requires c κs = search rules
 
-add-print-decimal : tie.Need-overflow-add-print-decimal invariant-loop decreases-loop
+add-print-decimal : tie.Need-overflow_add-first invariant-loop decreases-loop
 add-print-decimal c = search rules
 
-print-decimal-requires : tie.Need-print-decimal-requires invariant-loop decreases-loop
+print-decimal-requires : tie.Need-print_decimal-requires invariant-loop decreases-loop
 print-decimal-requires c κs = search rules
 
-slice-aggregate-write-all : tie.Need-slice-aggregate-write-all invariant-loop decreases-loop
-slice-aggregate-write-all c = search rules
-
-write-all-requires : tie.Need-write-all-requires invariant-loop decreases-loop
+write-all-requires : tie.Need-write_all-requires invariant-loop decreases-loop
 write-all-requires c κs = search rules
 
-print-decimal-requires-2 : tie.Need-print-decimal-requires-2 invariant-loop decreases-loop
+print-decimal-requires-2 : tie.Need-print_decimal-requires-in-loop-first invariant-loop decreases-loop
 print-decimal-requires-2 c κs = search rules
 
-slice-aggregate-write-all-2 : tie.Need-slice-aggregate-write-all-2 invariant-loop decreases-loop
-slice-aggregate-write-all-2 c = search rules
-
-write-all-requires-2 : tie.Need-write-all-requires-2 invariant-loop decreases-loop
+write-all-requires-2 : tie.Need-write_all-requires-in-loop-first invariant-loop decreases-loop
 write-all-requires-2 c κs = search rules
 
-add-first : tie.Need-overflow-add-first invariant-loop decreases-loop
+add-first : tie.Need-overflow_add-first-in-loop-first invariant-loop decreases-loop
 add-first c = search rules
 
-loop-less : tie.Need-loop-smaller invariant-loop decreases-loop
+loop-less : tie.Need-loop-first-smaller invariant-loop decreases-loop
 loop-less c = search rules
 
-loop-again : tie.Need-loop-preserved invariant-loop decreases-loop
+loop-again : tie.Need-loop-first-preserved invariant-loop decreases-loop
 loop-again c = tt
 
 returns : tie.Need-returns invariant-loop decreases-loop
@@ -59,10 +53,8 @@ main_spec =
     fifty-requires
     add-print-decimal
     print-decimal-requires
-    slice-aggregate-write-all
     write-all-requires
     print-decimal-requires-2
-    slice-aggregate-write-all-2
     write-all-requires-2
     add-first
     loop-less

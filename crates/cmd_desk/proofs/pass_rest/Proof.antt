@@ -5,44 +5,44 @@ use borrow.Author.Rules.{rules}
 use Rattle.cmd_desk.proofs.pass_rest.Statement.{statement}
 use Rattle.cmd_desk.proofs.pass_rest.Tie as tie
 
-abbrev invariant-loop : tie.invariant-loop
+abbrev invariant-loop : tie.invariant-loop-parts
 invariant-loop line n cut₀ parts₀ cut parts = parts ≤ 18446744073709551615
 
-abbrev decreases-loop : tie.decreases-loop
+abbrev decreases-loop : tie.decreases-loop-parts
 decreases-loop line n cut₀ parts₀ cut parts = 18446744073709551615 - parts
 
-is-cut-requires : tie.Need-is-cut-requires invariant-loop decreases-loop
+is-cut-requires : tie.Need-is_cut-cut-requires invariant-loop decreases-loop
 is-cut-requires c κs = search rules
 
-loop-holds : tie.Need-loop-init invariant-loop decreases-loop
+loop-holds : tie.Need-loop-parts-init invariant-loop decreases-loop
 loop-holds c = search rules
 
-add_parts : tie.Need-overflow-add-parts invariant-loop decreases-loop
+add_parts : tie.Need-overflow_add-parts invariant-loop decreases-loop
 add_parts c = search rules
 
-slice-aggregate-read-line : tie.Need-slice-aggregate-read-line invariant-loop decreases-loop
+slice-aggregate-read-line : tie.Need-slice_bounds-read_line-end invariant-loop decreases-loop
 slice-aggregate-read-line c = search rules
 
-read-line-requires : tie.Need-read-line-requires invariant-loop decreases-loop
+read-line-requires : tie.Need-read_line-m-requires invariant-loop decreases-loop
 read-line-requires c κs = search rules
 
-is-cut-requires-2 : tie.Need-is-cut-requires-2 invariant-loop decreases-loop
+is-cut-requires-2 : tie.Need-is_cut-cut-requires-in-loop-parts invariant-loop decreases-loop
 is-cut-requires-2 c κs = search rules
 
-loop-less : tie.Need-loop-smaller invariant-loop decreases-loop
+loop-less : tie.Need-loop-parts-smaller invariant-loop decreases-loop
 loop-less c = search rules
 
-loop-again : tie.Need-loop-preserved invariant-loop decreases-loop
+loop-again : tie.Need-loop-parts-preserved invariant-loop decreases-loop
 loop-again c = search rules
 
-returns : tie.Need-returns invariant-loop decreases-loop
+returns : tie.Need-returns-after-loop-parts invariant-loop decreases-loop
 returns c = search rules
 
-returns-2 : tie.Need-returns-2 invariant-loop decreases-loop
+returns-2 : tie.Need-returns-then-not-cut invariant-loop decreases-loop
 returns-2 c = search rules
 
-pub pass-rest-spec : {M : Type 1} → statement M
-pass-rest-spec =
+pub pass_rest_spec : {M : Type 1} → statement M
+pass_rest_spec =
     tie.close
     (tie.spec
     invariant-loop

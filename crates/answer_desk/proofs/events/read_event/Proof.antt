@@ -5,32 +5,28 @@ use borrow.Author.Rules.{rules}
 use Rattle.answer_desk.proofs.events.read_event.Statement.{statement}
 use Rattle.answer_desk.proofs.events.read_event.Tie as tie
 
-slice-aggregate-triple-line : tie.Need-slice-aggregate-triple-line
-slice-aggregate-triple-line c = search rules
-
-triple-line-requires : tie.Need-triple-line-requires
+triple-line-requires : tie.Need-triple_line-requires
 triple-line-requires c κs = search rules
 
-enum-known-first : tie.Need-enum-known-first
+enum-known-first : tie.Need-enum_known-first
 enum-known-first c = search rules
 
-returns : tie.Need-returns
-returns c = file_found _ _ c.before.before.before.triple-line.ensures _ _ _ _ c.before.first.given.1
+returns : tie.Need-returns-in-All
+returns c = file_found _ _ c.triple_line.ensures _ _ _ _ c.in-All.is
 
-enum_told : tie.Need-enum-told
+enum_told : tie.Need-enum_told-1
 enum_told c = search rules
 
-read-pair-event-requires : tie.Need-read-pair-event-requires
+read-pair-event-requires : tie.Need-read_pair_event-requires
 read-pair-event-requires c κs = search rules
 
-returns-2 : tie.Need-returns-2
-returns-2 c = other_found _ _ c.before.before.before.triple-line.ensures c.before.enum_told.given.1 _ c.read-pair-event.ensures
+returns-2 : tie.Need-returns
+returns-2 c = other_found _ _ c.triple_line.ensures c.in_default.is _ c.read_pair_event.ensures
 
-pub read-event-spec : {M : Type 1} → statement M
-read-event-spec =
+pub read_event_spec : {M : Type 1} → statement M
+read_event_spec =
     tie.close
     (tie.spec
-    slice-aggregate-triple-line
     triple-line-requires
     enum-known-first
     returns

@@ -6,49 +6,41 @@ use borrow.Author.Rules.{rules}
 use Rattle.answer_desk.proofs.events.read_pair_event.Statement.{statement}
 use Rattle.answer_desk.proofs.events.read_pair_event.Tie as tie
 
-slice-aggregate-pair-line : tie.Need-slice-aggregate-pair-line
-slice-aggregate-pair-line c = search rules
-
-pair-line-requires : tie.Need-pair-line-requires
+pair-line-requires : tie.Need-pair_line-requires
 pair-line-requires c κs = search rules
 
-enum-known-first : tie.Need-enum-known-first
+enum-known-first : tie.Need-enum_known-first
 enum-known-first c = search rules
 
-returns : tie.Need-returns
-returns c = withdraw_found _ _ c.before.before.before.pair_line.ensures _ _ _ c.before.first.given.1
+returns : tie.Need-returns-in-Both
+returns c = withdraw_found _ _ c.pair_line.ensures _ _ _ c.in-Both.is
 
-enum_told : tie.Need-enum-told
+enum_told : tie.Need-enum_told-1
 enum_told c = search rules
 
-slice-aggregate-pair-line-2 : tie.Need-slice-aggregate-pair-line-2
-slice-aggregate-pair-line-2 c = search rules
-
-pair-line-requires-2 : tie.Need-pair-line-requires-2
+pair-line-requires-2 : tie.Need-pair_line-requires-2
 pair-line-requires-2 c κs = search rules
 
-enum-known-first-2 : tie.Need-enum-known-first-2
+enum-known-first-2 : tie.Need-enum_known-first-in-Both-pair_line-2
 enum-known-first-2 c = search rules
 
-returns-2 : tie.Need-returns-2
-returns-2 c = board_found _ (no_pair withdraw_key _ _ c.before.before.before.before.before.before.before.pair_line.ensures c.before.before.before.before.before.enum_told.given.1) _ c.before.before.before.pair-line2.ensures _ _ _ c.before.first2.given.1
+returns-2 : tie.Need-returns-in-Both-pair_line
+returns-2 c = board_found _ (no_pair withdraw_key _ _ c.pair_line.ensures c.in_default.is) _ c.pair_line-2.ensures _ _ _ c.in-Both-pair_line.is
 
-enum-told-2 : tie.Need-enum-told-2
+enum-told-2 : tie.Need-enum_told-in_default-pair_line
 enum-told-2 c = search rules
 
-returns-3 : tie.Need-returns-3
-returns-3 c = none_found _ (no_pair withdraw_key _ _ c.before.before.before.before.before.before.pair_line.ensures c.before.before.before.before.enum_told.given.1) (no_pair board_key _ _ c.before.before.pair-line2.ensures c.enum-told2.given.1)
+returns-3 : tie.Need-returns
+returns-3 c = none_found _ (no_pair withdraw_key _ _ c.pair_line.ensures c.in_default.is) (no_pair board_key _ _ c.pair_line-2.ensures c.in_default-pair_line.is)
 
-pub read-pair-event-spec : {M : Type 1} → statement M
-read-pair-event-spec =
+pub read_pair_event_spec : {M : Type 1} → statement M
+read_pair_event_spec =
     tie.close
     (tie.spec
-    slice-aggregate-pair-line
     pair-line-requires
     enum-known-first
     returns
     enum_told
-    slice-aggregate-pair-line-2
     pair-line-requires-2
     enum-known-first-2
     returns-2

@@ -8,20 +8,24 @@ use borrow.Author.Rules.{rules}
 use Rattle.answer_desk.proofs.pages.entry.Statement.{statement}
 use Rattle.answer_desk.proofs.pages.entry.Tie as tie
 
-long : (s : tie.Start) → length s.args.t1 ≡ 8
+long : (s : tie.Start) → length s.args.row ≡ 8
 long s = search rules
 
-mul-result : tie.Need-overflow-mul-result
+mul-result : tie.Need-offset_bounds-row-i
 mul-result c = search rules
 
-array-read-result : tie.Need-array-read-result
+array-read-result : tie.Need-bounds-row-i
 array-read-result c = search rules
 
-returns : tie.Need-returns
+returns : tie.Need-returns-then-i-lt8
 returns c = search rules
 
-returns-2 : tie.Need-returns-2
-returns-2 c = let a = c.before.args in sym (get_or-eq_default a.t1 0 (let h : length a.t1 ≤ a.i = omega (arith, long c.before, c.if1.false) in h))
+returns-2 : tie.Need-returns
+returns-2 c = let a = c.args in sym (get_or-eq_default a.row 0 (let h : length a.row ≤ a.i = omega (arith, long c.before, c.if-i-lt8.false) in h))
 
 pub entry_spec : {M : Type 1} → statement M
-entry_spec = tie.close (tie.spec mul-result array-read-result returns returns-2)
+entry_spec = tie.close (tie.spec
+    mul-result
+    array-read-result
+    returns
+    returns-2)

@@ -12,71 +12,67 @@ use Rattle.answer_desk.proofs.Looking.{detours_left, detours_over}
 use Rattle.answer_desk.proofs.pages.put_detours.Statement.{statement}
 use Rattle.answer_desk.proofs.pages.put_detours.Tie as tie
 
-abbrev invariant-loop : tie.invariant-loop
-invariant-loop page₀ at n froms tos next₀ i₀ t10 page next i =
+abbrev invariant-loop : tie.invariant-loop-i
+invariant-loop page₀ at n froms tos next₀ i₀ page next i =
     LinesPut page₀ at 49 (pair_lines detour_key (take n froms) (take n tos)) n (pair_lines detour_key (drop i (take n froms)) (drop i (take n tos))) page next i
 
-abbrev decreases-loop : tie.decreases-loop
-decreases-loop page₀ at n froms tos next₀ i₀ t10 page next i = n - i
+abbrev decreases-loop : tie.decreases-loop-i
+decreases-loop page₀ at n froms tos next₀ i₀ page next i = n - i
 
-long-froms : (s : tie.Start invariant-loop decreases-loop) → length s.args.t3 ≡ 8
+long-froms : (s : tie.Start invariant-loop decreases-loop) → length s.args.froms ≡ 8
 long-froms s = search rules
 
-long-tos : (s : tie.Start invariant-loop decreases-loop) → length s.args.t4 ≡ 8
+long-tos : (s : tie.Start invariant-loop decreases-loop) → length s.args.tos ≡ 8
 long-tos s = search rules
 
-loop-holds : tie.Need-loop-init invariant-loop decreases-loop
+loop-holds : tie.Need-loop-i-init invariant-loop decreases-loop
 loop-holds c = lines_put_none _ _ _ _ _
 
-slice-aggregate-put-pair-line : tie.Need-slice-aggregate-put-pair-line invariant-loop decreases-loop
-slice-aggregate-put-pair-line c = search rules
-
-mul-put-pair-line : tie.Need-overflow-mul-put-pair-line invariant-loop decreases-loop
+mul-put-pair-line : tie.Need-offset_bounds-froms-i invariant-loop decreases-loop
 mul-put-pair-line c = search rules
 
-array-read-put-pair-line : tie.Need-array-read-put-pair-line invariant-loop decreases-loop
+array-read-put-pair-line : tie.Need-bounds-froms-i invariant-loop decreases-loop
 array-read-put-pair-line c = search rules
 
-mul-put-pair-line-2 : tie.Need-overflow-mul-put-pair-line-2 invariant-loop decreases-loop
+mul-put-pair-line-2 : tie.Need-offset_bounds-tos-i invariant-loop decreases-loop
 mul-put-pair-line-2 c = search rules
 
-array-read-put-pair-line-2 : tie.Need-array-read-put-pair-line-2 invariant-loop decreases-loop
+array-read-put-pair-line-2 : tie.Need-bounds-tos-i invariant-loop decreases-loop
 array-read-put-pair-line-2 c = search rules
 
-put-pair-line-requires : tie.Need-put-pair-line-requires invariant-loop decreases-loop
+put-pair-line-requires : tie.Need-put_pair_line-next-requires invariant-loop decreases-loop
 put-pair-line-requires c κs = search rules
 
-add-i : tie.Need-overflow-add-i invariant-loop decreases-loop
+add-i : tie.Need-overflow_add-i invariant-loop decreases-loop
 add-i c = search rules
 
-loop-less : tie.Need-loop-smaller invariant-loop decreases-loop
+loop-less : tie.Need-loop-i-smaller invariant-loop decreases-loop
 loop-less c = search rules
 
-loop-again : tie.Need-loop-preserved invariant-loop decreases-loop
+loop-again : tie.Need-loop-i-preserved invariant-loop decreases-loop
 loop-again c =
-    let ppl = c.before.before in
-    let il = ppl.before.before.before in
-    let s = il.before.before.before in
-    line_put _ _ _ _ _ s.requires.1 _ _ _ _ il.before.loop.invariant (search rules) _ _
-    (detours_left s.args.n s.args.t3 s.args.t4 s.requires.0 (long-froms s) (long-tos s) il.before.loop.i il.loop-test.true) _ (omega arith) _ _
-    ppl.put-pair-line.ensures
+    let ppl = c in
+    let il = ppl in
+    let s = il in
+    line_put _ _ _ _ _ s.requires.1 _ _ _ _ il.loop-i.invariant (search rules) _ _
+    (detours_left s.args.n s.args.froms s.args.tos s.requires.0 (long-froms s.before.before.before.before.before.before.before.before.before) (long-tos s.before.before.before.before.before.before.before.before.before) il.loop-i.i il.loop-i-test.true) _ (omega arith) _ _
+    ppl.put_pair_line-next.ensures
 
-same_length : tie.Need-same-length invariant-loop decreases-loop
-same_length c = c.before.loop.invariant.long
+same_length : tie.Need-shape_of-page invariant-loop decreases-loop
+same_length c = c.loop-i.invariant.long
 
 returns : tie.Need-returns invariant-loop decreases-loop
 returns c =
-    let s = c.before.before.before in lines_put _ _ _ _ _ s.requires.1 _ _ _ _ c.before.loop.invariant c.loop-test.false
-    (detours_over s.args.n s.args.t3 s.args.t4 s.requires.0 (long-froms s) (long-tos s) c.before.loop.i c.loop-test.false)
+    let s = c in lines_put _ _ _ _ _ s.requires.1 _ _ _ _ c.loop-i.invariant c.loop-i-test.false
+    (detours_over s.args.n s.args.froms s.args.tos s.requires.0 (long-froms s.before.before.before) (long-tos s.before.before.before) c.loop-i.i c.loop-i-test.false)
 
-pub put-detours-spec : {M : Type 1} → statement M
-put-detours-spec =
+pub put_detours_spec : {M : Type 1} → statement M
+put_detours_spec =
     tie.close
     (tie.spec
     invariant-loop
     decreases-loop
     loop-holds
-    slice-aggregate-put-pair-line
     mul-put-pair-line
     array-read-put-pair-line
     mul-put-pair-line-2

@@ -11,57 +11,57 @@ use borrow.Author.Rules.{rules}
 use Rattle.answer_desk.proofs.pages.put_tickets.Statement.{statement}
 use Rattle.answer_desk.proofs.pages.put_tickets.Tie as tie
 
-abbrev invariant-loop : tie.invariant-loop
+abbrev invariant-loop : tie.invariant-loop-i
 invariant-loop page₀ at first n reads row next₀ i₀ page next i = LinesPut page₀ at 133 (closed_lines reads (take n (drop first row))) n (closed_lines reads (drop i (take n (drop first row)))) page next i
 
-abbrev decreases-loop : tie.decreases-loop
+abbrev decreases-loop : tie.decreases-loop-i
 decreases-loop page₀ at first n reads row next₀ i₀ page next i = n - i
 
-long : (s : tie.Start invariant-loop decreases-loop) → length s.args.t3 ≡ 32
+long : (s : tie.Start invariant-loop decreases-loop) → length s.args.row ≡ 32
 long s = search rules
 
-loop-holds : tie.Need-loop-init invariant-loop decreases-loop
+loop-holds : tie.Need-loop-i-init invariant-loop decreases-loop
 loop-holds c = lines_put_none _ _ _ _ _
 
-add-t : tie.Need-overflow-add-t invariant-loop decreases-loop
-add-t c = omega (arith, c.before.before.before.requires.0)
+add-t : tie.Need-overflow_add-t invariant-loop decreases-loop
+add-t c = omega (arith, c.requires.0)
 
-mul-t : tie.Need-overflow-mul-t invariant-loop decreases-loop
-mul-t c = omega (arith, c.before.before.before.requires.0)
+mul-t : tie.Need-offset_bounds-row-first invariant-loop decreases-loop
+mul-t c = omega (arith, c.requires.0)
 
-array-copy-out-t : tie.Need-array-copy-out-t invariant-loop decreases-loop
-array-copy-out-t c = omega (arith, c.before.before.before.requires.0)
+array-copy-out-t : tie.Need-bounds-row-first invariant-loop decreases-loop
+array-copy-out-t c = omega (arith, c.requires.0)
 
-put-closed-requires : tie.Need-put-closed-requires invariant-loop decreases-loop
+put-closed-requires : tie.Need-put_closed-next-requires invariant-loop decreases-loop
 put-closed-requires c κs =
-    let al = c.before.before.before in
-    line_room _ _ _ _ _ al.before.before.requires.1 _ _ _ _ al.loop.invariant c.before.before.loop-test.true
+    let al = c in
+    line_room _ _ _ _ _ al.requires.1 _ _ _ _ al.loop-i.invariant c.loop-i-test.true
 
-add-i : tie.Need-overflow-add-i invariant-loop decreases-loop
+add-i : tie.Need-overflow_add-i invariant-loop decreases-loop
 add-i c = search rules
 
-loop-less : tie.Need-loop-smaller invariant-loop decreases-loop
+loop-less : tie.Need-loop-i-smaller invariant-loop decreases-loop
 loop-less c = search rules
 
-loop-again : tie.Need-loop-preserved invariant-loop decreases-loop
+loop-again : tie.Need-loop-i-preserved invariant-loop decreases-loop
 loop-again c =
-    let pc = c.before.before in
-    let il = pc.before.before.before in
-    let s = il.before.before.before in
-    line_wrote _ _ _ _ _ s.requires.1 _ _ _ _ il.before.loop.invariant il.loop-test.true _ _
-    (tickets_left s.args.reads s.args.t3 (long s) s.args.first s.args.n s.requires.0 il.before.loop.i il.loop-test.true) _ (omega arith) _ _
-    pc.put-closed.ensures
+    let pc = c in
+    let il = pc in
+    let s = il in
+    line_wrote _ _ _ _ _ s.requires.1 _ _ _ _ il.loop-i.invariant il.loop-i-test.true _ _
+    (tickets_left s.args.reads s.args.row (long s.before.before.before.before.before.before.before.before) s.args.first s.args.n s.requires.0 il.loop-i.i il.loop-i-test.true) _ (omega arith) _ _
+    pc.put_closed-next.ensures
 
-same_length : tie.Need-same-length invariant-loop decreases-loop
-same_length c = c.before.loop.invariant.long
+same_length : tie.Need-shape_of-page invariant-loop decreases-loop
+same_length c = c.loop-i.invariant.long
 
 returns : tie.Need-returns invariant-loop decreases-loop
 returns c =
-    let s = c.before.before.before in lines_put _ _ _ _ _ s.requires.1 _ _ _ _ c.before.loop.invariant c.loop-test.false
-    (tickets_over s.args.reads s.args.t3 (long s) s.args.first s.args.n s.requires.0 c.before.loop.i c.loop-test.false)
+    let s = c in lines_put _ _ _ _ _ s.requires.1 _ _ _ _ c.loop-i.invariant c.loop-i-test.false
+    (tickets_over s.args.reads s.args.row (long s.before.before.before) s.args.first s.args.n s.requires.0 c.loop-i.i c.loop-i-test.false)
 
-pub put-tickets-spec : {M : Type 1} → statement M
-put-tickets-spec =
+pub put_tickets_spec : {M : Type 1} → statement M
+put_tickets_spec =
     tie.close
     (tie.spec
     invariant-loop

@@ -15,35 +15,35 @@ long-froms s = search rules
 long-tos : (s : tie.Start) → length s.args.tos ≡ 8
 long-tos s = search rules
 
-slice-aggregate-put-boarding : tie.Need-slice-aggregate-put-boarding
+slice-aggregate-put-boarding : tie.Need-slice_bounds-put_boarding-end
 slice-aggregate-put-boarding c = search rules
 
-put-boarding-requires : tie.Need-put-boarding-requires
-put-boarding-requires c κs = let l = c.before.before.requires in (l.one, (l.two, search rules))
+put-boarding-requires : tie.Need-put_boarding-bytes-requires
+put-boarding-requires c κs = let l = c.requires in (l.one, (l.two, search rules))
 
-array-share-prefix-page : tie.Need-array-share-prefix-page
-array-share-prefix-page c = omega (arith, c.before.put-boarding.ensures.within)
+array-share-prefix-page : tie.Need-slice_bounds-page-end
+array-share-prefix-page c = omega (arith, c.put_boarding-bytes.ensures.within)
 
-slice-aggregate-hand-out : tie.Need-slice-aggregate-hand-out
-slice-aggregate-hand-out c = part_length _ _ _ _ _ c.before.before.put-boarding.ensures
+slice-aggregate-hand-out : tie.Need-slice_bounds-hand_out-end
+slice-aggregate-hand-out c = part_length _ _ _ _ _ c.put_boarding-bytes.ensures
 
-hand-out-requires : tie.Need-hand-out-requires
+hand-out-requires : tie.Need-hand_out-requires
 hand-out-requires c κs = search rules
 
-same_length : tie.Need-same-length
-same_length c = c.before.before.hand-out.auto.1.0
+same_length : tie.Need-shape_of-out
+same_length c = c.hand_out.auto.out
 
 returns : tie.Need-returns
 returns c =
-    let ho = c.before.before in
-    let pb = ho.before.before.before.before in
-    let s = pb.before.before.before in
+    let ho = c in
+    let pb = ho in
+    let s = pb in
     let a = s.args in
-    let w = boarded_wrote a.row a.boarded a.froms a.tos a.reads (long-froms s) (long-tos s) s.requires _ _ _ pb.put-boarding.ensures in
-    record { few = omega (arith, w.after, w.within); handed = page_handed _ _ _ _ _ w _ _ refl _ _ ho.hand-out.ensures }
+    let w = boarded_wrote a.row a.boarded a.froms a.tos a.reads (long-froms s.before.before.before.before.before.before.before.before.before) (long-tos s.before.before.before.before.before.before.before.before.before) s.requires _ _ _ pb.put_boarding-bytes.ensures in
+    record { few = omega (arith, w.after, w.within); handed = page_handed _ _ _ _ _ w _ _ refl _ _ ho.hand_out.ensures }
 
-pub say-boarding-spec : {M : Type 1} → statement M
-say-boarding-spec =
+pub say_boarding_spec : {M : Type 1} → statement M
+say_boarding_spec =
     tie.close
     (tie.spec
     slice-aggregate-put-boarding

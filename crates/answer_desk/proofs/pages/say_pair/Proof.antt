@@ -8,39 +8,39 @@ use Rattle.answer_desk.proofs.pages.say_pair.Statement.{statement}
 use Rattle.answer_desk.proofs.pages.say_pair.Tie as tie
 
 -- The way back from a place in the code to the one that the name says.
-abbrev at-start : tie.After-put-pair-line → tie.Start
+abbrev at-start : tie.After-put_pair_line-bytes → tie.Start
 at-start c = c.before.before.before.before
 
-slice-aggregate-put-pair-line : tie.Need-slice-aggregate-put-pair-line
+slice-aggregate-put-pair-line : tie.Need-slice_bounds-put_pair_line-end
 slice-aggregate-put-pair-line c = search rules
 
-put-pair-line-requires : tie.Need-put-pair-line-requires
+put-pair-line-requires : tie.Need-put_pair_line-bytes-requires
 put-pair-line-requires c κs = search rules
 
-array-share-prefix-page : tie.Need-array-share-prefix-page
-array-share-prefix-page c = let short = (at-start c.before).requires in let w = c.before.put-pair-line.ensures.room (omega arith) in omega (arith, w.within)
+array-share-prefix-page : tie.Need-slice_bounds-page-end
+array-share-prefix-page c = let short = (at-start c.before).requires in let w = c.put_pair_line-bytes.ensures.room (omega arith) in omega (arith, w.within)
 
-slice-aggregate-hand-out : tie.Need-slice-aggregate-hand-out
+slice-aggregate-hand-out : tie.Need-slice_bounds-hand_out-end
 slice-aggregate-hand-out c =
-    let ppl = c.before.before in
-    let short = (at-start ppl).requires in part_length _ _ _ _ _ (ppl.put-pair-line.ensures.room (omega arith))
+    let ppl = c in
+    let short = (at-start ppl.before.before).requires in part_length _ _ _ _ _ (ppl.put_pair_line-bytes.ensures.room (omega arith))
 
-hand-out-requires : tie.Need-hand-out-requires
+hand-out-requires : tie.Need-hand_out-requires
 hand-out-requires c κs = search rules
 
-same_length : tie.Need-same-length
-same_length c = c.before.before.hand-out.auto.1.0
+same_length : tie.Need-shape_of-out
+same_length c = c.hand_out.auto.out
 
 returns : tie.Need-returns
 returns c =
-    let ho = c.before.before in
-    let ppl = ho.before.before.before.before in
-    let short = (at-start ppl).requires in
-    let w = ppl.put-pair-line.ensures.room (omega arith) in
-    record { few = omega (arith, w.after, w.within); handed = page_handed _ _ _ _ _ w _ _ refl _ _ ho.hand-out.ensures }
+    let ho = c in
+    let ppl = ho in
+    let short = (at-start ppl.before.before.before.before.before.before).requires in
+    let w = ppl.put_pair_line-bytes.ensures.room (omega arith) in
+    record { few = omega (arith, w.after, w.within); handed = page_handed _ _ _ _ _ w _ _ refl _ _ ho.hand_out.ensures }
 
-pub say-pair-spec : {M : Type 1} → statement M
-say-pair-spec =
+pub say_pair_spec : {M : Type 1} → statement M
+say_pair_spec =
     tie.close
     (tie.spec
     slice-aggregate-put-pair-line
