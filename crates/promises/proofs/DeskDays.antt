@@ -267,6 +267,7 @@ only_desk OnlyTheRun.short_room s r = absurd (r refl)
 -- 9 comes last, behind 5.
 room_last : {run : Run} {rows : Rows} {place : ℕ} → FirstThatApplies (PlanApplies run rows) plan_order ShortRoom place → ((p : ℕ) → PlanApplies run rows TooManyReads p → ⊥) × PlanApplies run rows ShortRoom place
 room_last (FirstThatApplies.later a (FirstThatApplies.later b (FirstThatApplies.later c (FirstThatApplies.later d (FirstThatApplies.later e (FirstThatApplies.later f (FirstThatApplies.later g (FirstThatApplies.later h (FirstThatApplies.here r))))))))) = (e, r)
+room_last (FirstThatApplies.later a (FirstThatApplies.later b (FirstThatApplies.later c (FirstThatApplies.later d (FirstThatApplies.later e (FirstThatApplies.later f (FirstThatApplies.later g (FirstThatApplies.later h (FirstThatApplies.later i none))))))))) = elim none [ ]
 
 room_enough : {run : Run} {room : List ℕ} {place : ℕ} → length run.numbers ≤ 8 → 65600 ≤ length room → ((p : ℕ) → PlanApplies run (rows_lent room) TooManyReads p → ⊥) → PlanApplies run (rows_lent room) ShortRoom place → ⊥
 room_enough few long reads (PlanApplies.run h) = let l = of_the_run h in omega (arith, l)

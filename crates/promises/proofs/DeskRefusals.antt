@@ -29,7 +29,7 @@ use Rattle.demands.specs.RefusalTable.{FirstBad}
 use Rattle.demands.proofs.Tests.{Tells, tells_equal, tells_below, tells_at_most, tells_not, tells_either, tells_both, tells_reworded}
 use Rattle.demands.proofs.Checks.{Decides, decides_if, decides_at, decides_reworded, Finds, finds_none, finds_first, first_of_joined, refused_iff}
 use Rattle.demands.proofs.Demand1.{demand1_plan}
-use Rattle.promises.specs.DeskRefusals.{Within, IsTicketOf, Follows, RecordIsBad, RowApplies, short_row, bad_record, row_order, RowJudged, InRange, FilingApplies, records, out_of_range, office_full, numbers_spent, filing_order, FilingAnswers, IsAmong, IsWaiting, WithdrawalApplies, of_the_row, not_waiting, withdrawal_order, WithdrawalAnswers, BoardingAnswers, IsTableOf, BadRecordIsFirstSuch}
+use Rattle.promises.specs.DeskRefusals.{Within, IsTicketOf, Follows, RecordIsBad, RowApplies, short_row, row_order, RowJudged, InRange, FilingApplies, records, out_of_range, office_full, numbers_spent, filing_order, FilingAnswers, IsAmong, IsWaiting, WithdrawalApplies, of_the_row, not_waiting, withdrawal_order, WithdrawalAnswers, BoardingAnswers, IsTableOf, BadRecordIsFirstSuch}
 use Rattle.promises.proofs.DeskSteps.{not_accepted}
 
 tells_within : (most n : ℕ) → Tells (up_to most n) (Within most n)
@@ -83,13 +83,13 @@ module _ (len : ℕ) (row : List Ticket) (l : Lasts) where
   short_back p (short_row s) = (refl, s)
 
   bad_back : (p : ℕ) → RowApplies len row l BadRecord p → FirstBad (RecordIsBad l row) 32 p
-  bad_back p (bad_record b) = b
+  bad_back p (RowApplies.bad_record b) = b
 
   decides_short : Decides ShortRow (RowApplies len row l ShortRow) (refuse_if (ltb len all_places) ShortRow)
   decides_short = decides_reworded short_there short_back (decides_if (ltb len all_places) ShortRow (tells_below len all_places))
 
   decides_bad : Decides BadRecord (RowApplies len row l BadRecord) (refuse_at (first_where (bad_record l row) all_places) BadRecord)
-  decides_bad = decides_reworded (λ p h. bad_record h) bad_back (decides_at (bad_record l row) (RecordIsBad l row) all_places (tells_bad l row) BadRecord)
+  decides_bad = decides_reworded (λ p h. RowApplies.bad_record h) bad_back (decides_at (bad_record l row) (RecordIsBad l row) all_places (tells_bad l row) BadRecord)
 
   pub row_finds : Finds (RowApplies len row l) row_order (records_verdict len row l)
   unfolding records_verdict
@@ -112,18 +112,21 @@ module _ (len : ℕ) (row : List Ticket) (f : Filing) where
 
   range_back : (p : ℕ) → FilingApplies len row f BadTicket p → (p ≡ 0) × (InRange f → ⊥)
   range_back p (out_of_range n) = (refl, n)
+  range_back p (records x3) = elim x3 [ ]
 
   full_there : (p : ℕ) → (p ≡ 0) × (16 ≤ length (waiting f.office row)) → FilingApplies len row f OfficeFull p
   full_there p h = rw h.0 (office_full h.1)
 
   full_back : (p : ℕ) → FilingApplies len row f OfficeFull p → (p ≡ 0) × (16 ≤ length (waiting f.office row))
   full_back p (office_full l) = (refl, l)
+  full_back p (records x3) = elim x3 [ ]
 
   spent_there : (p : ℕ) → (p ≡ 0) × (65535 ≤ last_of f.office f.lasts) → FilingApplies len row f NumbersSpent p
   spent_there p h = rw h.0 (numbers_spent h.1)
 
   spent_back : (p : ℕ) → FilingApplies len row f NumbersSpent p → (p ≡ 0) × (65535 ≤ last_of f.office f.lasts)
   spent_back p (numbers_spent l) = (refl, l)
+  spent_back p (records x3) = elim x3 [ ]
 
   filing_finds : Finds (FilingApplies len row f) filing_order (file_verdict len row f)
   unfolding file_verdict records_verdict
@@ -174,6 +177,7 @@ module _ (len : ℕ) (row : List Ticket) (w : Withdrawal) where
 
   waiting_back : (p : ℕ) → WithdrawalApplies len row w NotWaiting p → (p ≡ 0) × (IsWaiting w.office w.number row → ⊥)
   waiting_back p (not_waiting n) = (refl, n)
+  waiting_back p (of_the_row x3) = elim x3 [ ]
 
   pub tells_waiting : Tells (is_waiting w.office w.number row) (IsWaiting w.office w.number row)
   tells_waiting =

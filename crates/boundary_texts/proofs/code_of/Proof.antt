@@ -9,14 +9,18 @@ use Rattle.boundary_texts.proofs.code_of.Tie as tie
 number-requires : tie.Need-number-requires
 number-requires c κs = search rules
 
-mul-result : tie.Need-overflow-mul-result
+mul-result : tie.Need-overflow_mul-result
 mul-result c = search rules
 
-add-result : tie.Need-overflow-add-result
-add-result c = omega (arith, c.before.number.ensures, number_small c.before.before.args.v.refusal, c.before.before.requires)
+add-result : tie.Need-overflow_add-result
+add-result c = omega (arith, c.number.ensures, number_small c.args.v.refusal, c.requires)
 
 returns : tie.Need-returns
 returns c = search rules
 
-pub code-of-spec : {M : Type 1} → statement M
-code-of-spec = tie.close (tie.spec number-requires mul-result add-result returns)
+pub code_of_spec : {M : Type 1} → statement M
+code_of_spec = tie.close (tie.spec
+    number-requires
+    mul-result
+    add-result
+    returns)

@@ -7,35 +7,42 @@ use borrow.Author.Rules.{rules}
 use Rattle.boundary_texts.proofs.tell_both.Statement.{statement}
 use Rattle.boundary_texts.proofs.tell_both.Tie as tie
 
-code-of-requires : tie.Need-code-of-requires
+code-of-requires : tie.Need-code_of-code-requires
 code-of-requires c κs = search rules
 
 refused-requires : tie.Need-refused-requires
 refused-requires c κs = search rules
 
-returns : tie.Need-returns
+returns : tie.Need-returns-then-refused
 returns c =
-    let f = c.before in
-    let d = f.before in
-    let a = d.before.before.args in
-    both_refused a.v a.mended a.noted a.sizes.now _ d.code_of_lem.ensures _ f.refused.ensures c.if1.true
+    let f = c in
+    let d = f in
+    let a = d.args in
+    both_refused a.v a.mended a.noted a.sizes.now _ d.code_of-code.ensures _ f.refused.ensures c.if-refused.true
 
-slice-write-sizes : tie.Need-slice-write-sizes
+slice-write-sizes : tie.Need-bounds-sizes-0
 slice-write-sizes c = search rules
 
-slice-write-sizes-2 : tie.Need-slice-write-sizes-2
+slice-write-sizes-2 : tie.Need-bounds-sizes-1
 slice-write-sizes-2 c = search rules
 
-same_length : tie.Need-same-length
-same_length c = let a = c.before.before.before.before.args in length-set (set a.sizes.now 0 a.mended) 1 a.noted ∙ length-set a.sizes.now 0 a.mended
+same_length : tie.Need-shape_of-sizes
+same_length c = let a = c.args in length-set (set a.sizes.now 0 a.mended) 1 a.noted ∙ length-set a.sizes.now 0 a.mended
 
-returns-2 : tie.Need-returns-2
+returns-2 : tie.Need-returns
 returns-2 c =
-    let f = c.before in
-    let d = f.before in
-    let s = d.before.before in
+    let f = c in
+    let d = f in
+    let s = d in
     let a = s.args in
-    both_told a.v a.mended a.noted a.sizes.now _ d.code_of_lem.ensures _ f.refused.ensures c.if1.false s.requires.1
+    both_told a.v a.mended a.noted a.sizes.now _ d.code_of-code.ensures _ f.refused.ensures c.if-refused.false s.requires.1
 
-pub tell-both-spec : {M : Type 1} → statement M
-tell-both-spec = tie.close (tie.spec code-of-requires refused-requires returns slice-write-sizes slice-write-sizes-2 same_length returns-2)
+pub tell_both_spec : {M : Type 1} → statement M
+tell_both_spec = tie.close (tie.spec
+    code-of-requires
+    refused-requires
+    returns
+    slice-write-sizes
+    slice-write-sizes-2
+    same_length
+    returns-2)
