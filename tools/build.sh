@@ -1,15 +1,17 @@
 #!/usr/bin/env bash
-# Has rt make something: `tools/build.sh check CRATE`, a program, or `tools/build.sh library violstream`, the library for C. The status is rt's.
-# `tools/build.sh library violstream modules` also leaves the modules that the library is compiled from, in target/staticlib/modules (tools/watched.sh).
+# Has rt make something:
 #
-# rt by itself proves floor by floor, and begins a floor when the one below is done. For a program it is called here for one crate at a time first,
-# each as soon as what it names is proved, in as many lanes as there are processors, so that no core waits. A lane is a folder that is a checkout to
-# rt: the crates and what was proved are those of this one, its logs are its own, so that two calls do not meet. Nothing is decided here: rt itself
-# comes last, and proves whatever is not proved.
+#   tools/build.sh check CRATE                   proves a program and all that it stands on, links it, and runs it on what its crate records (`rt run`)
+#   tools/build.sh programs                      takes the programs as `rt ci` has just proved, linked and run them
+#   tools/build.sh library violstream [modules]  the library for C; with `modules` also the modules that it is compiled from (tools/watched.sh)
 #
-# Printed is what rt prints, behind a line `rooms=` with the folder of the lanes and of rt's temporary files. It goes when this ends, also by a signal.
+# Programs go to target/bin, and a file of the same name in target/stamp says that one is proved and has run as recorded; the library goes to
+# target/staticlib, its modules to target/staticlib/modules. Nothing is decided here: rt and rattle prove, and only what is proved is built.
+#
+# Printed is what they print, behind a line `rooms=` with the folder of this script's temporary files. It goes when this ends, also by a signal.
+# For each crate that is proved there is a line `rt: CRATE proved (SECONDS s)`; as long as it is not, target/log/CRATE.out is empty.
 set -u
-unset -v CDPATH ar at crate ended first folder free here height job lane lanes met name named names order rooms running state status unproved
+unset -v CDPATH apart began begun crate folder given job jobs line order proved recorded rooms status teller words
 here=$(cd "$(dirname "$0")/.." && pwd)
 rooms=
 
@@ -28,147 +30,111 @@ trap 'trap "" HUP INT TERM; exit 130' INT
 trap 'trap "" HUP INT TERM; exit 143' TERM
 # shellcheck source=tools/memory.sh
 . "$here/tools/memory.sh"
+# shellcheck source=tools/machine.sh
+. "$here/tools/machine.sh"
+# shellcheck source=tools/rattle.sh
+. "$here/tools/rattle.sh"
 folder=$(room_folder)
 rooms=$(mktemp -d "$folder/violstream.XXXXXX" 2> /dev/null) || { printf 'error: cannot make a temporary folder in %s\n' "$folder"; exit 1; }
-chmod 711 "$rooms" # rt runs programs as nobody
 printf 'rooms=%s\n' "$rooms"
 
-declare -A height=() met=() names=() state=()
-order=() free=() running=0 unproved=0 status=0
-
-# visit CRATE: it, and before it what it names, into the order; names and state have every crate by then.
-visit() {
-    local name
-    [ -z "${met[$1]:-}" ] || return 0
-    met[$1]=yes
-    for name in ${names[$1]}; do
-        [ -z "${names[$name]+known}" ] || visit "$name"
-    done
-    order+=("$1")
+fail() {
+    printf 'error: %s\n' "$1"
+    exit 1
 }
 
-# The crates below one, each behind those that it names; and of each how many stand above it, one on the other, since those wait for it.
-below() {
-    local at crate
-    while IFS=: read -r name named; do
-        names[${name// /}]=$named
-    done < <(sed -e 's/#.*//' -e '/:/!d' "$here/crates.txt")
-    visit "$1"
-    for ((at = ${#order[@]} - 1; at >= 0; at--)); do
-        crate=${order[at]}
-        for name in ${names[$crate]}; do
-            [ "${height[$name]:-0}" -gt "${height[$crate]:-0}" ] || height[$name]=$((${height[$crate]:-0} + 1))
-        done
+# tell CRATE: passes on what is said, and says of each crate when it is proved. rt begins one with `rt: chose --jobs`; CRATE is begun already.
+tell() {
+    proved=$1 began=$SECONDS
+    [ -z "$proved" ] || : > "$here/target/log/$proved.out"
+    while IFS= read -r line; do
+        case $line in
+            'rt: chose --jobs '*) proved=${line##* } began=$SECONDS && : > "$here/target/log/$proved.out" ;;
+            'rt: running '* | 'rt: nothing has changed '*) ;;
+            logic=proved*)
+                printf '%s\n' "$line"
+                [ -z "$proved" ] || printf 'rt: %s proved (%s s)\n' "$proved" "$((SECONDS - began))" | tee "$here/target/log/$proved.out"
+                proved=
+                ;;
+            *) printf '%s\n' "$line" ;;
+        esac
     done
-    unset 'order[-1]'
-    for crate in "${order[@]}"; do
-        state[$crate]=waits
-        [ -e "$here/target/stamp/$crate" ] || unproved=$((unproved + 1))
-    done
+    [ -z "$proved" ] || echo 'not proved' > "$here/target/log/$proved.out"
 }
 
-# Whether all that a crate names and that is to be proved here is proved.
-can_start() {
-    local name
-    for name in ${names[$1]}; do
-        [ "${state[$name]:-proved}" = proved ] || return 1
-    done
-}
-
-# start CRATE LANE: a call in the background, which ends with a line in the pipe: the crate, the lane, the status. Descriptor 8, where there is one, is
-# the lock (tools/beside.sh), which goes with this script.
-start() {
-    {
-        trap 'kill "$!" 2> /dev/null; exit 143' TERM
-        (cd "$rooms/$2" && exec env RT_JOBS=1 TMPDIR="$rooms" rt check "$1") > "$rooms/$2/said" 2>&1 3>&- 8>&- &
-        wait "$!"
-        printf '%s %s %s\n' "$1" "$2" "$?" >&3
-    } &
-    state[$1]=begun running=$((running + 1))
-}
-
-# Starts what can be started, as long as a lane is free: first what most stand above.
-start_some() {
-    local crate first
-    while [ "${#free[@]}" -gt 0 ]; do
-        first=
-        for crate in "${order[@]}"; do
-            if [ "${state[$crate]}" = waits ] && [ "${height[$crate]}" -gt "${height[${first:-none}]:-0}" ] && can_start "$crate"; then
-                first=$crate
-            fi
-        done
-        [ -n "$first" ] || return 0
-        start "$first" "${free[0]}"
-        free=("${free[@]:1}")
-    done
-}
-
-# Waits for one call; sets ended to its status.
-end_one() {
-    local crate lane
-    read -r crate lane ended <&3
-    free+=("$lane") running=$((running - 1))
-    if [ "$ended" -eq 0 ]; then
-        state[$crate]=proved
-        grep "^rt: $crate " "$rooms/$lane/said"
-    else
-        cat "$rooms/$lane/said"
-    fi
-}
-
-# What is under a program, in lanes; what little is left rt does as quickly.
-prove_below() {
-    below "$1"
-    [ "$unproved" -gt 1 ] || return 0
-    lanes=${RT_JOBS:-$(nproc 2> /dev/null || echo 1)}
-    [ "$lanes" -le 4 ] || lanes=4
-    mkdir -p "$here/target"/{rlib,stamp,obj,bin} || return 1
-    for ((lane = 1; lane <= lanes; lane++)); do
-        mkdir -p "$rooms/$lane/target/log" && ln -s "$here"/{crates,crates.txt} "$rooms/$lane/" && ln -s "$here/target"/{rlib,stamp,obj,bin} "$rooms/$lane/target/" || return 1
-        free+=("$lane")
-    done
-    { mkfifo "$rooms/ends" && exec 3<> "$rooms/ends"; } || return 1
-    start_some
-    while [ "$running" -gt 0 ]; do
-        end_one
-        [ "$ended" -eq 0 ] || [ "$status" -ne 0 ] || status=$ended
-        [ "$status" -ne 0 ] || start_some
-    done
-    exec 3>&-
+# told CRATE COMMAND...: in the crate's folder, on the file `given`; where $apart names a file, what comes on standard output goes there. The status is the command's.
+told() {
+    mkfifo "$rooms/said" || return
+    tell "${begun:-}" < "$rooms/said" 8>&- &
+    teller=$!
+    (cd "$here/crates/$1" && shift && exec env TMPDIR="$rooms" "$@") < "${given:-/dev/null}" 2> "$rooms/said" > "${apart:-$rooms/said}" 8>&- &
+    wait "$!"
+    status=$?
+    wait "$teller"
+    rm -f "$rooms/said"
     return "$status"
 }
 
-# The library for C: rt makes an archive for each crate that has functions marked for C, and their objects go into one archive.
-library() {
-    # shellcheck source=tools/machine.sh
-    . "$here/tools/machine.sh"
-    ar=$(kit)/on/$machine/toolchain/bin/llvm-ar # the kit's own, which knows x86-64 on every machine
-    [ -x "$ar" ] || ar='ar'
-    cd "$here" || return
-    order=(boundary boundary_desk boundary_texts)
-    [ ! -d crates/boundary_pick ] || order+=(boundary_pick)
-    rm -rf target/staticlib/modules # of an older library
-    if [ "${2:-}" = modules ]; then
-        # shellcheck source=tools/keep.sh
-        . "$here/tools/keep.sh"
-        keeping_kit "$rooms" || return
-        export RATTLE_HOME=$rooms/kit
-        mkdir -p target/staticlib/modules || return
-    fi
-    for crate in "${order[@]}"; do
-        TMPDIR=$rooms rt staticlib "$crate" &
-        wait "$!" || return
-        [ "${2:-}" != modules ] || mv -f "$rooms/module.bc" "target/staticlib/modules/$crate.bc" || return
-    done
-    { echo "create $rooms/all.a"; printf 'addlib target/staticlib/lib%s.a\n' "${order[@]}"; echo save; echo end; } | "$ar" -M || return
-    # From another disk it is copied, and a copy that was cut off would be newer than every source: aside first, and then at once.
-    cp "$rooms/all.a" "target/staticlib/lib$1.part" && mv -f "target/staticlib/lib$1.part" "target/staticlib/lib$1.a"
+# take PROGRAM FROM: it goes to its place at once, and whole; then the stamp.
+take() {
+    cp "$2" "$here/target/bin/.$1.part" && chmod 755 "$here/target/bin/.$1.part" && mv -f "$here/target/bin/.$1.part" "$here/target/bin/$1" && : > "$here/target/stamp/$1"
 }
 
+# rt links a program, and runs it in its crate's folder. What it writes must be what the crate records.
+program() {
+    crate=$here/crates/$1
+    [ -f "$crate/src/main.rt" ] || fail "no program $1"
+    rm -f "$here/target/stamp/$1"
+    given=/dev/null recorded=/dev/null apart=$rooms/written
+    [ ! -f "$crate/stdin" ] || given=$crate/stdin
+    [ ! -f "$crate/stdout" ] || recorded=$crate/stdout
+    told "$1" rt run || fail "rt run in crates/$1 ended with status $status"
+    cmp -s "$recorded" "$apart" || fail "what $1 writes is not what crates/$1/stdout has"
+    take "$1" "$crate/out/$1"
+}
+
+programs() {
+    for crate in "$here"/crates/*/src/main.rt; do
+        crate=${crate%/src/main.rt}
+        [ -x "$crate/out/${crate##*/}" ] || fail "no program in $crate/out; 'rt ci' makes it"
+        take "${crate##*/}" "$crate/out/${crate##*/}" || return
+    done
+}
+
+# The archive of a crate that has functions marked for C. To rt it is a library, which others stand on; what is built here is the same text, proved once more, with all that it calls.
+archive() {
+    are_below "$1" || told "$1" rt lib || return
+    mapfile -t words < <(words_for "$1")
+    words=("$(kit)/bin/rattle" build "${words[@]}" --jobs "$jobs" --crate-type staticlib --cpu x86-64 --toolchain "$rooms/toolchain" -o "$rooms/lib$1.a")
+    begun=$1 told "$1" "${words[@]}" && return
+    # What `rt ci` made of a library fits only what it made of those below, and some may be of `rt check`.
+    are_of_one "$1" && return 1
+    told "$1" rt lib && begun=$1 told "$1" "${words[@]}"
+}
+
+# The library for C: an archive of each such crate, and their objects in one archive.
+library() {
+    order=(boundary boundary_desk boundary_texts boundary_pick)
+    jobs=$(nproc 2> /dev/null || echo 1)
+    [ "$jobs" -le 4 ] || jobs=4
+    rm -rf "$here/target/staticlib/modules" # of an older library
+    # shellcheck source=tools/keep.sh
+    . "$here/tools/keep.sh"
+    keeping_tools "$rooms" || fail 'no Rattle kit beside rt'
+    [ "${2:-}" != modules ] || mkdir -p "$here/target/staticlib/modules" || return
+    for crate in "${order[@]}"; do
+        archive "$crate" || fail "the archive of $crate was not built"
+        [ "${2:-}" != modules ] || mv -f "$rooms/module.bc" "$here/target/staticlib/modules/$crate.bc" || return
+    done
+    { echo "create $rooms/all.a"; printf "addlib $rooms/lib%s.a\n" "${order[@]}"; echo save; echo end; } | "$(kit)/toolchain/bin/llvm-ar" -M || return
+    # From another disk it is copied, and a copy that was cut off would be newer than every source: aside first, and then at once.
+    cp "$rooms/all.a" "$here/target/staticlib/lib$1.part" && mv -f "$here/target/staticlib/lib$1.part" "$here/target/staticlib/lib$1.a"
+}
+
+mkdir -p "$here/target"/{bin,log,stamp,staticlib} || exit
 case $1 in
-    check) prove_below "$2" || exit ;;
-    library) library "$2" "${3:-}"; exit ;;
+    check) program "$2" ;;
+    programs) programs ;;
+    library) library "$2" "${3:-}" ;;
+    *) fail "no such word: $1" ;;
 esac
-cd "$here" || exit
-TMPDIR=$rooms rt "$@" 8>&- &
-wait "$!"

@@ -1,23 +1,21 @@
-# shellcheck shell=sh disable=SC2154  # `machine` is machine.sh's
+# shellcheck shell=sh
 # The module that the Rattle compiler hands to its back end, kept; for the scripts that read this file by `.` after machine.sh.
 #
-#   keeping_kit FOLDER   makes FOLDER/kit, a kit as the one beside rt but for its compiler: that leaves each module in FOLDER/module.bc, and does
-#                        what it does. rt takes it as RATTLE_HOME, rattle its on/MACHINE/toolchain as --toolchain
-unset -v file real kept_tools
-keeping_kit() {
-    real=$(kit) && kept_tools=$1/kit/on/$machine/toolchain && mkdir -p "$kept_tools/bin" || return
-    [ -x "$real/on/$machine/toolchain/bin/clang" ] || return
-    for file in "$real"/* "$real/on/$machine"/* "$real/on/$machine/toolchain/lib"; do
+#   keeping_tools FOLDER   makes FOLDER/toolchain, the back end as the kit has it but for its compiler: that leaves each module in FOLDER/module.bc, and
+#                          does what it does. rattle takes it as --toolchain
+unset -v file real
+keeping_tools() {
+    real=$(kit)/toolchain && [ -x "$real/bin/clang" ] && mkdir -p "$1/toolchain/bin" || return
+    for file in "$real"/* "$real"/bin/*; do
         case ${file#"$real"/} in
-            on | "on/$machine/toolchain") ;;
-            *) ln -s "$file" "$1/kit/${file#"$real"/}" || return ;;
+            bin | bin/clang) ;;
+            *) ln -s "$file" "$1/toolchain/${file#"$real"/}" || return ;;
         esac
     done
-    for file in llvm-ar ld.lld; do ln -s "$real/on/$machine/toolchain/bin/clang" "$kept_tools/bin/$file" || return; done
-    cat > "$kept_tools/bin/clang" << END
+    cat > "$1/toolchain/bin/clang" << END
 #!/bin/sh
 for word in "\$@"; do case \$word in *.bc) cp "\$word" "$1/module.bc" ;; esac; done
-exec "$real/on/$machine/toolchain/bin/clang" "\$@"
+exec "$real/bin/clang" "\$@"
 END
-    chmod +x "$kept_tools/bin/clang"
+    chmod +x "$1/toolchain/bin/clang"
 }

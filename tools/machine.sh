@@ -6,7 +6,7 @@
 #   machine, emulated   the processor's name; yes if it is not x86-64, else no
 #   cc, cxx             the compilers of C and C++
 #   emulator, cross     what runs the programs that these or rustc have linked, and where it finds their libraries
-unset -v cc cross cxx emulated emulator libraries loader machine rt runner tools
+unset -v cc cross cxx emulated emulator loader machine rt runner
 machine=$(uname -m)
 cross=/usr/x86_64-linux-gnu
 case $machine in
@@ -16,29 +16,22 @@ esac
 
 # ---- Programs that rt has linked ----
 
-# The folder of the Rattle kit, as rt itself finds it.
+# The folder of the Rattle kit, as rt itself finds it; RATTLE_HOME names another.
 kit() {
     [ -z "${RATTLE_HOME:-}" ] || { printf '%s\n' "$RATTLE_HOME"; return; }
     rt=$(command -v rt) && rt=$(readlink -f "$rt") && dirname "$(dirname "$rt")"
 }
 
-# Prints the words that stand before such a program, one to a line: none on x86-64. The kit has an emulator, a loader and a
-# C library for them; where it has not, Debian's serve. (The kit's emulator does not do for Rust's programs: it ends when
-# they look up their own memory map.)
+# Prints the words that stand before such a program, one to a line: none on x86-64. Elsewhere Debian's emulator, with the loader and the C library of its
+# cross compilers.
 starter() {
     [ "$emulated" = yes ] || return 0
-    tools=$(kit)/on/$machine/toolchain
-    if [ -x "$tools/bin/qemu-x86_64" ]; then
-        runner=$tools/bin/qemu-x86_64 libraries=$tools/lib
-    else
-        runner=$(command -v "$emulator") libraries=$cross/lib
-    fi
-    loader=$libraries/ld-linux-x86-64.so.2
+    runner=$(command -v "$emulator") loader=$cross/lib/ld-linux-x86-64.so.2
     if [ -z "$runner" ] || [ ! -r "$loader" ]; then
         printf 'the program is for x86-64, this machine is %s, and there is nothing to run it by: ' "$machine" >&2
-        printf 'neither an emulator of the Rattle kit, beside rt, nor %s on PATH with a C library ' "$emulator" >&2
+        printf '%s is not on PATH, or there is no C library for it ' "$emulator" >&2
         printf '(on Debian, as root: apt-get install qemu-user libc6-amd64-cross)\n' >&2
         return 1
     fi
-    printf '%s\n' "$runner" "$loader" --library-path "$libraries"
+    printf '%s\n' "$runner" "$loader" --library-path "$cross/lib"
 }

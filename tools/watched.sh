@@ -28,8 +28,8 @@ shift 2
 [ $# -gt 0 ] || set -- "$here"/target/staticlib/modules/*.bc
 [ -f "$1" ] || fail "no module $1; 'tools/build.sh library violstream modules' makes those of the library"
 [ "$emulated" = no ] || fail "only on x86-64"
-clang=$(kit)/on/$machine/toolchain/bin/clang
-[ -x "$clang" ] || fail "no Rattle kit for this machine beside rt"
+clang=$(kit)/toolchain/bin/clang
+[ -x "$clang" ] || fail "no Rattle kit beside rt"
 case $kind in
     address) attribute=sanitize_address flags='-O1 -fsanitize=address' ;;
     thread) attribute=sanitize_thread flags='-O1 -fsanitize=thread' ;;

@@ -53,8 +53,8 @@ def checked(folder, text):
 
 
 def main():
-    kit = subprocess.run(["sh", "-c", '. "$0" && kit && printf %s "$machine"', programs.MACHINE], stdout=subprocess.PIPE, text=True, check=True).stdout.split("\n")
-    clang = f"{kit[0]}/on/{kit[1]}/toolchain/bin/clang"
+    kit = subprocess.run(["sh", "-c", '. "$0" && kit', programs.MACHINE], stdout=subprocess.PIPE, text=True, check=True).stdout.strip()
+    clang = f"{kit}/toolchain/bin/clang"
     with tempfile.TemporaryDirectory() as folder:
         for body in UNKNOWN:
             if checked(folder, module([function("known", KINDS[0][1]), function("unknown", body)])).returncode == 0:
