@@ -46,7 +46,7 @@ prove_beside() {
     say "and proving and building $needed beside it, which takes some two and a half to six minutes on two idle cores"
     [ -e "$here/target/bin/$needed" ] || rm -f "$here/target/stamp/$needed"
     # shellcheck disable=SC2086  # words
-    $ending "$here/tools/build.sh" check "$needed" < /dev/null 2>&1 | sed -u -n -e '/(unchanged since /d' -e 's/^rt: /violstream: /p' >&2 8>&- &
+    $ending "$here/tools/build.sh" check "$needed" < /dev/null 2>&1 | sed -u -n 's/^rt: /violstream: /p' >&2 8>&- &
     exec 8>&-
 }
 

@@ -11,7 +11,7 @@
 # Printed is what they print, behind a line `rooms=` with the folder of this script's temporary files. It goes when this ends, also by a signal.
 # For each crate that is proved there is a line `rt: CRATE proved (SECONDS s)`; as long as it is not, target/log/CRATE.out is empty.
 set -u
-unset -v CDPATH apart began begun crate folder given job jobs line order proved recorded rooms status teller words
+unset -v CDPATH apart began begun crate folder given here job jobs line order proved recorded rooms status teller words
 here=$(cd "$(dirname "$0")/.." && pwd)
 rooms=
 
@@ -49,7 +49,10 @@ tell() {
     [ -z "$proved" ] || : > "$here/target/log/$proved.out"
     while IFS= read -r line; do
         case $line in
-            'rt: chose --jobs '*) proved=${line##* } began=$SECONDS && : > "$here/target/log/$proved.out" ;;
+            'rt: chose --jobs '*)
+                [ -z "$proved" ] || echo 'left' > "$here/target/log/$proved.out"
+                proved=${line##* } began=$SECONDS && : > "$here/target/log/$proved.out"
+                ;;
             'rt: running '* | 'rt: nothing has changed '*) ;;
             logic=proved*)
                 printf '%s\n' "$line"

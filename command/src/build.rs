@@ -108,7 +108,7 @@ struct Build<'a> {
     places: &'a Places,
     minutes: u32,
     made: PathBuf,
-    /// What rt writes when a program has been proved and has run as recorded, and not before.
+    /// What tools/build.sh writes when a program has been proved and has run as recorded, and not before.
     stamp: Option<PathBuf>,
     words: [&'static str; 2],
 }
@@ -145,7 +145,7 @@ impl Build<'_> {
         if let Err(error) = fs::create_dir_all(&target) {
             return failed(format!("cannot write {}/: {}", quoted(target.as_os_str()), reason(&error)));
         }
-        for name in ["", "bin", "log", "rlib", "stamp", "staticlib"] {
+        for name in ["", "bin", "log", "stamp", "staticlib"] {
             let folder = target.join(name);
             let exists = folder.symlink_metadata().is_ok();
             if exists && !(folder.is_dir() && access(&folder, AccessFlags::W_OK).is_ok()) {
@@ -158,7 +158,7 @@ impl Build<'_> {
     fn make(&self) -> Result<(), Stop> {
         let name = self.made.file_name().unwrap_or_default().to_string_lossy().into_owned();
         say(&format!("first call, or an update: proving and building {name}; at most some {} minutes on two idle cores", self.minutes));
-        // A crate that rt has once proved it does not build again.
+        // One without the other is of a call that was cut short.
         if !self.made.exists() {
             let _ = fs::remove_file(self.places.root.join("target/stamp").join(&name));
         }
@@ -168,7 +168,7 @@ impl Build<'_> {
             return self.tell_why(&said.text, &words);
         }
         if !self.made.exists() {
-            return failed(format!("'rt {words}' made no {}", quoted(self.made.as_os_str())));
+            return failed(format!("'tools/build.sh {words}' made no {}", quoted(self.made.as_os_str())));
         }
         // From now on it is newer than the sources.
         let now = TimeSpec::new(0, libc::UTIME_NOW);
@@ -184,7 +184,7 @@ impl Build<'_> {
         let root = quoted(self.places.root.as_os_str());
         match disk.into_iter().find(|fault| text.contains(fault)) {
             Some(fault) => failed(format!("cannot write {root}/target/: {fault}")),
-            None => failed(format!("'rt {words}' failed in {root}; what it said is above")),
+            None => failed(format!("'tools/build.sh {words}' failed in {root}; what it said is above")),
         }
     }
 
@@ -201,10 +201,10 @@ impl Build<'_> {
 }
 
 /// Whether any file below a folder was written after a time. What was built is proved by the proofs that stood there then, whatever becomes of them;
-/// wrong programs are built by nobody.
+/// wrong programs are built by nobody, and what rt makes stands beside the sources.
 fn any_newer(folder: &Path, than: SystemTime) -> bool {
     let is_newer = |entry: DirEntry| match entry.file_type() {
-        Ok(kind) if kind.is_dir() => !["proofs", "must-fail"].contains(&&*entry.file_name().to_string_lossy()) && any_newer(&entry.path(), than),
+        Ok(kind) if kind.is_dir() => !["proofs", "must-fail", "out"].contains(&&*entry.file_name().to_string_lossy()) && any_newer(&entry.path(), than),
         Ok(kind) => kind.is_file() && is_newer(entry.metadata(), than),
         Err(_) => true,
     };
@@ -228,7 +228,6 @@ struct Progress<'a> {
     root: &'a Path,
     began: Instant,
     began_by_clock: SystemTime,
-    rooms: Option<PathBuf>,
     text: String,
     /// How much of the text has been looked at.
     told: usize,
@@ -238,7 +237,7 @@ impl Progress<'_> {
     fn new(child: Child, root: &Path) -> Progress<'_> {
         // A clock's tick is no order.
         let began_by_clock = SystemTime::now() - Duration::from_secs(2);
-        Progress { child, root, began: Instant::now(), began_by_clock, rooms: None, text: String::new(), told: 0 }
+        Progress { child, root, began: Instant::now(), began_by_clock, text: String::new(), told: 0 }
     }
 
     fn follow(mut self) -> Result<Said, Stop> {
@@ -271,9 +270,7 @@ impl Progress<'_> {
         while let Some(length) = self.text[self.told..].find('\n') {
             let said = self.text[self.told..self.told + length].to_string();
             self.told += length + 1;
-            if let Some(rooms) = said.strip_prefix("rooms=") {
-                self.rooms = Some(rooms.into());
-            } else if let Some(said) = said.strip_prefix("rt: ").filter(|said| !said.contains("(unchanged since ")) {
+            if let Some(said) = said.strip_prefix("rt: ") {
                 say(&crate::words::shown(said));
             }
         }
@@ -285,16 +282,15 @@ impl Progress<'_> {
         say(&format!("still proving{crates}, {} s by now", self.began.elapsed().as_secs()));
     }
 
-    /// The crates that rt is proving just now: it has begun to write down what it says of them, and has not said anything yet.
+    /// The crates that rt is proving just now: tools/build.sh has begun to write down what is said of them, and nothing has been said yet.
     fn at_work(&self) -> Vec<String> {
-        let lanes = self.rooms.iter().filter_map(|rooms| fs::read_dir(rooms).ok()).flatten().flatten().map(|lane| lane.path().join("target/log"));
-        let logs = lanes.chain([self.root.join("target/log")]).filter_map(|log| fs::read_dir(log).ok());
+        let log = fs::read_dir(self.root.join("target/log"));
         let begun = |path: &PathBuf| {
             let about = fs::metadata(path).ok();
             let written = about.as_ref().and_then(|about| about.modified().ok());
             path.extension() == Some(OsStr::new("out")) && about.map_or(false, |about| about.len() == 0) && written > Some(self.began_by_clock)
         };
-        let files = logs.flatten().flatten().map(|entry| entry.path()).filter(begun);
+        let files = log.into_iter().flatten().flatten().map(|entry| entry.path()).filter(begun);
         let mut names: Vec<String> = files.filter_map(|path| Some(path.file_stem()?.to_string_lossy().into_owned())).collect();
         names.sort();
         names.dedup();

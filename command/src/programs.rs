@@ -122,34 +122,21 @@ impl Program {
     }
 }
 
-/// The words that stand before a program for x86-64: none on such a machine. Elsewhere the Rattle kit has an emulator, a loader and a C library;
-/// where it has not, Debian's serve.
+/// The words that stand before a program for x86-64: none on such a machine. Elsewhere Debian's emulator, with the loader and the C library of its cross compilers.
 fn starter(program: &Path) -> Result<Vec<OsString>, Stop> {
     if cfg!(target_arch = "x86_64") {
         return Ok(Vec::new());
     }
     let machine = std::env::consts::ARCH;
-    let kit = kit().unwrap_or_default().join("on").join(machine).join("toolchain");
-    let (runner, libraries) = match kit.join("bin/qemu-x86_64") {
-        runner if runner.is_file() => (Some(runner), kit.join("lib")),
-        _ => (on_path("qemu-x86_64"), PathBuf::from("/usr/x86_64-linux-gnu/lib")),
-    };
+    let libraries = PathBuf::from("/usr/x86_64-linux-gnu/lib");
     let loader = libraries.join("ld-linux-x86-64.so.2");
-    match runner {
+    match on_path("qemu-x86_64") {
         Some(runner) if loader.is_file() => Ok(vec![runner.into(), loader.into(), "--library-path".into(), libraries.into()]),
         _ => failed(format!(
-            "{} is for x86-64, this machine is {machine}, and there is nothing to run it by: neither an emulator of the Rattle kit, beside rt, \
-             nor qemu-x86_64 on PATH with a C library (on Debian, as root: apt-get install qemu-user libc6-amd64-cross)",
+            "{} is for x86-64, this machine is {machine}, and there is nothing to run it by: qemu-x86_64 is not on PATH, or there is no C library for it \
+             (on Debian, as root: apt-get install qemu-user libc6-amd64-cross)",
             quoted(program.as_os_str())
         )),
-    }
-}
-
-/// The folder of the Rattle kit, as rt itself finds it.
-fn kit() -> Option<PathBuf> {
-    match std::env::var_os("RATTLE_HOME") {
-        Some(home) if !home.is_empty() => Some(home.into()),
-        _ => Some(on_path("rt")?.canonicalize().ok()?.parent()?.parent()?.to_path_buf()),
     }
 }
 

@@ -28,6 +28,7 @@ from sheets import read
 LIMIT = 120
 BUILT = "target/command/violstream"
 PROGRAMS = ("cmd_plan", "cmd_plan_any", "cmd_field", "cmd_buys", "cmd_buys_any", "cmd_price", "cmd_check", "cmd_rewrite", "cmd_mend", "cmd_month", "cmd_ltfs", "cmd_desk")
+BOUNDARIES = ("boundary", "boundary_desk", "boundary_texts", "boundary_pick")
 ARCHIVE = b"!<arch>\n"
 # The library is for x86-64; with it a command that takes any run has the most room, without it some, and says what to do.
 LINKED = platform.machine() == "x86_64"
@@ -66,7 +67,7 @@ class Checkout:
         for name in PROGRAMS:
             source = os.path.join(programs.ROOT, "target/bin", name)
             if not os.path.exists(source):
-                sys.exit(f"command.py: no program {source}; 'rt check {name}' makes it")
+                sys.exit(f"command.py: no program {source}; 'tools/build.sh check {name}' makes it")
             shutil.copy(source, os.path.join(self.root, "target/bin", name))
             self.write(f"target/stamp/{name}", b"\n")
         shutil.copy(os.path.join(programs.ROOT, BUILT), os.path.join(self.root, BUILT))
@@ -1222,36 +1223,49 @@ def without_compiler(at):
     at.must("./violstream help", 1, b"", ["the command itself is needed"])
 
 
-# A stand-in for rt, which proves nothing: it says what rt says, and makes what it is asked for from the programs kept beside it. It may be called
-# from another folder than the checkout.
+# A stand-in for rt, which proves nothing: it says what rt says, and makes what it is asked for, in the folder of a crate, from the programs kept beside it.
 STAND_IN = """#!/bin/sh
-printf '%s\\n' "$*" >> "${0%/*}/../calls"
-mkdir -p target/bin target/log target/stamp target/staticlib
-: > target/log/walk.out
-case $2 in cmd_*) sleep "${SLOW:-0}" ;; *) sleep "${SLOW_BELOW:-0}" ;; esac
-echo 'rt: refusals proved (unchanged since it was last proved)'
-echo 'logic=proved'
-echo 'rt: walk proved (7 s)' | tee target/log/walk.out
+crate=${PWD##*/}
+printf '%s\\n' "$1 $crate" >> "${0%/*}/../calls"
+exec 3>&1
+[ "$1" != run ] || exec >&2
+echo 'rt: chose --jobs 2 for refusals'
+echo "rt: chose --jobs 2 for walk"
+sleep "${SLOW:-0}"
 [ -z "${FAULT:-}" ] || { echo "$FAULT"; exit 1; }
+echo 'logic=proved functions=28'
 mktemp -d > /dev/null
-case $1,$2 in
-check,cmd_*) [ -e "target/stamp/$2" ] || cp "kept/$2" "target/bin/$2"; echo > "target/stamp/$2" ;;
-check,*) echo > "target/stamp/$2" ;;
-staticlib,*) printf '!<arch>\\n' > "target/staticlib/lib$2.a" ;;
-esac
+mkdir -p out
+[ "$1" != run ] || { cp "../../kept/$crate" "out/$crate" && exec "out/$crate" >&3; }
+"""
+# And for rattle, for the library: the words of an archive that it is to make stand behind -o.
+COMPILER = """#!/bin/sh
+printf '%s\\n' "build $3" >> "${0%/*}/../../calls"
+while [ "$1" != -o ]; do shift; done
+printf '!<arch>\\n' > "$2"
+echo 'logic=proved functions=4'
 """
 
 
 def unbuilt(at):
-    """The checkout with nothing built but the command, and a stand-in for rt on PATH."""
-    os.makedirs(at.path("stand-in"))
+    """The checkout with nothing built but the command, and stand-ins for rt, on PATH, and for the kit beside it."""
     os.rename(at.path("target/bin"), at.path("kept"))
     forget_built(at)
-    at.write("stand-in/rt", STAND_IN.encode())
-    os.chmod(at.path("stand-in/rt"), 0o755)
-    at.write("calls", b"")
     kit = subprocess.run(["sh", "-c", '. "$0" && kit', programs.MACHINE], capture_output=True, text=True).stdout.strip()
-    at.surroundings.update(PATH=at.path("stand-in") + ":" + os.environ["PATH"], RATTLE_HOME=kit)
+    os.makedirs(at.path("stand-in/bin"))
+    os.symlink(os.path.join(kit, "toolchain"), at.path("stand-in/toolchain"))
+    for name, text in (("stand-in/rt", STAND_IN), ("stand-in/bin/rattle", COMPILER)):
+        at.write(name, text.encode())
+        os.chmod(at.path(name), 0o755)
+    for name in PROGRAMS:
+        os.makedirs(at.path(f"crates/{name}/src"))
+        at.write(f"crates/{name}/src/main.rt", b"")
+        for part in ("stdin", "stdout"):
+            shutil.copy(os.path.join(programs.ROOT, "crates", name, part), at.path(f"crates/{name}/{part}"))
+    for name in BOUNDARIES:
+        os.makedirs(at.path(f"crates/{name}/src"))
+    at.write("calls", b"")
+    at.surroundings.update(PATH=at.path("stand-in") + ":" + os.environ["PATH"], RATTLE_HOME=at.path("stand-in"))
 
 
 def forget_built(at):
@@ -1262,15 +1276,9 @@ def forget_built(at):
 
 
 def called(at):
-    """The calls of rt for programs and for the library."""
+    """The calls of rt for programs, and of rattle for the library."""
     with open(at.path("calls")) as handle:
-        return [call for call in handle.read().split("\n")[:-1] if re.match("check cmd_|staticlib ", call)]
-
-
-def proved_first(at):
-    """The calls of rt for what a program stands on, in their order."""
-    with open(at.path("calls")) as handle:
-        return [call.split()[1] for call in handle.read().split("\n")[:-1] if not re.match("check cmd_|staticlib ", call)]
+        return [call for call in handle.read().split("\n")[:-1] if re.match("run cmd_|build ", call)]
 
 
 def building(at):
@@ -1280,40 +1288,19 @@ def building(at):
     at.must("./violstream plan -x", 2, b"")
     if called(at):
         raise Wrong(f"something was built for a call that could not be answered: {called(at)}")
-    at.must("./violstream plan examples/VX0041.run", 0, PLAN, ["proving and building cmd_plan; at most some 3 minutes", "violstream: walk proved (7 s)\n"])
+    at.must("./violstream plan examples/VX0041.run", 0, PLAN, ["proving and building cmd_plan; at most some 3 minutes", "violstream: walk proved ("])
     at.must("./violstream plan examples/VX0041.run", 0, PLAN, silent=True)
-    if called(at) != ["check cmd_plan"]:
+    if called(at) != ["run cmd_plan"]:
         raise Wrong(f"rt was called so: {called(at)}")
-    below(at, "cmd_plan")
     at.must(f"./violstream ltfs VX0041 {LABEL} {INDEX}", 0, SHEET, ["building cmd_ltfs"])
     at.must("rm target/bin/cmd_plan && ./violstream plan examples/VX0041.run", 0, PLAN, ["building cmd_plan"])
     at.must("./violstream build", 0, b"", ["building cmd_plan_any", "building cmd_field", "building cmd_buys", "building cmd_buys_any", "building cmd_price", "building cmd_check", "building cmd_rewrite", "building cmd_mend", "building cmd_month", "building cmd_desk", "building libviolstream.a"])
     at.must("touch -d '+1 minute' crates/refusals/newer && ./violstream build", 0, b"", ["cmd_plan;", "cmd_plan_any", "cmd_field", "cmd_buys", "cmd_buys_any", "cmd_price", "cmd_check", "cmd_rewrite", "cmd_mend", "cmd_month", "cmd_ltfs", "cmd_desk", "libviolstream.a"])
     at.must("rm crates/refusals/newer && ./violstream build", 0, b"", ["violstream: built"])
     at.must("./violstream build more", 2, b"")
-    every = ["check cmd_plan", "check cmd_plan_any", "check cmd_field", "check cmd_buys", "check cmd_buys_any", "check cmd_price", "check cmd_check", "check cmd_rewrite", "check cmd_mend", "check cmd_month", "check cmd_ltfs", "check cmd_desk", "staticlib boundary", "staticlib boundary_desk", "staticlib boundary_texts"]
-    if called(at) != ["check cmd_plan", "check cmd_ltfs", "check cmd_plan", "check cmd_plan_any", "check cmd_field", "check cmd_buys", "check cmd_buys_any", "check cmd_price", "check cmd_check", "check cmd_rewrite", "check cmd_mend", "check cmd_month", "check cmd_desk", "staticlib boundary", "staticlib boundary_desk", "staticlib boundary_texts"] + every:
+    every = [f"run {name}" for name in PROGRAMS] + [f"build {name}" for name in BOUNDARIES]
+    if called(at) != ["run cmd_plan", "run cmd_ltfs", "run cmd_plan", *(call for call in every if call not in ("run cmd_plan", "run cmd_ltfs")), *every]:
         raise Wrong(f"rt was called so: {called(at)}")
-
-
-def below(at, program, order=None):
-    """What a program stands on was proved once each, and nothing before what it names."""
-    with open(at.path("crates.txt")) as handle:
-        named = dict(line.split("#")[0].split(":") for line in handle if ":" in line.split("#")[0])
-    named = {crate.strip(): [one for one in rest.split() if one in named] for crate, rest in named.items()}
-    under, todo = set(), list(named[program])
-    while todo:
-        crate = todo.pop()
-        if crate not in under:
-            under.add(crate)
-            todo += named[crate]
-    order = proved_first(at) if order is None else order
-    if sorted(order) != sorted(under):
-        raise Wrong(f"under {program} there are {sorted(under)}, and proved were {order}")
-    for at_once, crate in enumerate(order):
-        late = [one for one in named[crate] if one not in order[:at_once]]
-        if late:
-            raise Wrong(f"{crate} was proved before {late}, which it names: {order}")
 
 
 def building_fails(at):
@@ -1324,13 +1311,14 @@ def building_fails(at):
     os.rmdir(at.path("target/lock"))
     if called(at):
         raise Wrong("rt was called although target/ cannot be written")
-    at.must(f"FAULT='error: it is not so' {sheet}", 1, b"", ["error: it is not so", "'rt check cmd_plan' failed"])
+    at.must(f"FAULT='error: it is not so' {sheet}", 1, b"", ["error: it is not so", "'tools/build.sh check cmd_plan' failed"])
     at.must(f"mkdir -p target/bin && cp kept/cmd_plan target/bin/ && {sheet}", 0, PLAN, ["building cmd_plan"])
-    at.must(f"rm target/stamp/cmd_plan && FAULT='error: it is not so' {sheet}", 1, b"", ["'rt check cmd_plan' failed"])
+    at.must(f"rm target/stamp/cmd_plan && FAULT='error: it is not so' {sheet}", 1, b"", ["'tools/build.sh check cmd_plan' failed"])
     at.must(f"{sheet}", 0, PLAN, ["building cmd_plan"])
     at.must(f"rm -r target/bin target/stamp && TMPDIR=/no-such {sheet}", 1, b"", ["cannot make a temporary folder in /no-such"])
     at.must(f"FAULT='cp: No space left on device' {sheet}", 1, b"", ["cannot write ", "/target/: No space left on device"])
-    at.must(f"rm -f kept/cmd_plan && {sheet}", 1, b"", ["made no "])
+    at.must(f"cp examples/mounted.plan crates/cmd_plan/stdout && {sheet}", 1, b"", ["what cmd_plan writes is not what crates/cmd_plan/stdout has"])
+    at.must(f"rm -f kept/cmd_plan && {sheet}", 1, b"", ["rt run in crates/cmd_plan ended with status 1"])
     without = ":".join(one for one in os.environ["PATH"].split(":") if not os.path.exists(os.path.join(one, "rt")))
     at.must(f"PATH={without} {sheet}", 1, b"", ["(rt) is not on PATH"])
 
@@ -1347,7 +1335,7 @@ def building_twice(at):
         raise Wrong(f"the first of two calls printed {out!r} and said {said!r}")
     if second.stdout != PLAN or b"another call is building here; waiting for it" not in second.stderr or b"still waiting" not in second.stderr:
         raise Wrong(f"the second of two calls printed {second.stdout!r} and said {second.stderr!r}")
-    if called(at) != ["check cmd_plan"] or os.listdir(at.temporary):
+    if called(at) != ["run cmd_plan"] or os.listdir(at.temporary):
         raise Wrong(f"rt was called so: {called(at)}; left behind: {os.listdir(at.temporary)}")
 
 
@@ -1405,17 +1393,16 @@ def beside(at):
     """On a fresh clone the command is compiled while rt is at work; whichever fails is told, and whatever ends the call ends both."""
     uncompiled(at)
     sheet = "./violstream plan examples/VX0041.run"
-    words = ["compiling the command", "and proving and building cmd_plan beside it", "violstream: walk proved (7 s)\n"]
+    words = ["compiling the command", "and proving and building cmd_plan beside it", "violstream: walk proved ("]
     at.must(f"COMPILING=2 {sheet}", 0, PLAN, words)
     calls = all_calls(at)
-    if calls.count("check cmd_plan") != 1 or calls.count("cargo") != 1 or calls.index("check cmd_plan") > calls.index("compiled"):
+    if calls.count("run cmd_plan") != 1 or calls.count("cargo") != 1 or calls.index("run cmd_plan") > calls.index("compiled"):
         raise Wrong(f"rt and cargo were not called beside each other, and once each: {calls}")
-    below(at, "cmd_plan", [call.split()[1] for call in calls if re.match("check (?!cmd_)", call)])
     at.must(sheet, 0, PLAN, silent=True)
     # The command is there first: it waits for what was begun, and does not call it another's.
     forget_compiled(at)
     printed, said, status = at.shell(f"SLOW=3 VIOLSTREAM_SILENCE=1 {sheet}")
-    if (printed, status) != (PLAN, 0) or "another call" in said or "still proving, " not in said or all_calls(at).count("check cmd_plan") != 1:
+    if (printed, status) != (PLAN, 0) or "another call" in said or "still proving, " not in said or all_calls(at).count("run cmd_plan") != 1:
         raise Wrong(f"a call whose proofs outlast the compiler printed {printed!r}, said {said!r} and called {all_calls(at)}")
     for line, program in (("plan --any examples/mounted.run", "cmd_plan_any"), ("buys examples/VX0041.run", "cmd_buys")):
         forget_compiled(at)
@@ -1427,11 +1414,11 @@ def beside(at):
             raise Wrong(f"{line} had {called(at)} built")
     # What fails is told: rt by the command, which tries again; the compiler by the plain answer.
     forget_compiled(at)
-    at.must(f"FAULT='error: it is not so' {sheet}", 1, b"", ["error: it is not so", "'rt check cmd_plan' failed"])
+    at.must(f"FAULT='error: it is not so' {sheet}", 1, b"", ["error: it is not so", "'tools/build.sh check cmd_plan' failed"])
     forget_compiled(at)
     at.must(f"CARGO_FAULT='no such crate' {sheet}", 0, PLAN, ["error: no such crate", "so the proved program answers by itself", "beside it"])
     forget_compiled(at)
-    at.must(f"CARGO_FAULT='no such crate' FAULT='error: it is not so' {sheet}", 1, b"", ["error: no such crate", "'rt check cmd_plan' failed"])
+    at.must(f"CARGO_FAULT='no such crate' FAULT='error: it is not so' {sheet}", 1, b"", ["error: no such crate", "'tools/build.sh check cmd_plan' failed"])
     beside_ended(at)
 
 
@@ -1474,12 +1461,12 @@ def beside_ended(at):
     if printed != b"1\n" or "cannot read no-such.run" not in said:
         raise Wrong(f"without its file a first call printed {printed!r} and said {said!r}")
     ends = ((signal.SIGINT, os.killpg), (signal.SIGTERM, os.kill), (signal.SIGKILL, os.kill), (signal.SIGHUP, os.killpg))
-    for slow, compiling, met in (("0", "0", "compiled"), ("0", "30", "cargo"), ("30", "30", "check refusals")):
+    for compiling, met in (("0", "compiled"), ("30", "cargo"), ("30", "run cmd_plan")):
         for number, end in ends:
             forget_compiled(at)
             call = subprocess.Popen(["./violstream", "plan", "examples/VX0041.run"], cwd=at.root, stdout=subprocess.PIPE, stderr=subprocess.DEVNULL,
-                                    env=dict(at.surroundings, SLOW_BELOW=slow, COMPILING=compiling), start_new_session=True)
-            until(lambda: met in all_calls(at) and (called(at) or slow != "0"), "rt or cargo was not called")
+                                    env=dict(at.surroundings, COMPILING=compiling), start_new_session=True)
+            until(lambda: met in all_calls(at) and called(at), "rt or cargo was not called")
             end(call.pid, number)
             call.wait(LIMIT)
             until(lambda: not os.listdir(at.temporary), f"signal {number}: left {os.listdir(at.temporary)}")
@@ -1503,7 +1490,7 @@ def at_work(at):
     return found
 
 
-SCRIPTS = ("violstream", "tools/beside.sh", "tools/build.sh", "tools/edits.sh", "tools/keep.sh", "tools/machine.sh", "tools/native.sh")
+SCRIPTS = ("violstream", "tools/beside.sh", "tools/build.sh", "tools/keep.sh", "tools/machine.sh", "tools/native.sh", "tools/rattle.sh")
 # Names that are the caller's to set, and those of the shell itself.
 OUTSIDE = {"PATH", "TMPDIR", "DESTDIR", "PREFIX", "RATTLE_HOME", "RT_JOBS", "VIOLSTREAM_SILENCE", "VIOLSTREAM_MAINTAINER", "PIPESTATUS", "SECONDS"}
 
@@ -1546,7 +1533,8 @@ def surrounded(at):
         machine = names_in("tools/machine.sh")[1] if b"/machine.sh\"" in contents(script) else set()
         machine |= names_in("tools/beside.sh")[1] if b"/beside.sh\"" in contents(script) else set()
         machine |= names_in("tools/keep.sh")[1] if b"/keep.sh\"" in contents(script) else set()
-        machine |= {"tools/beside.sh": {"here"}, "tools/keep.sh": {"machine"}}.get(script, set())
+        machine |= names_in("tools/rattle.sh")[1] if b"/rattle.sh\"" in contents(script) else set()
+        machine |= {"tools/beside.sh": {"here"}, "tools/rattle.sh": {"here"}}.get(script, set())
         if read - emptied - machine:
             raise Wrong(f"{script} reads what it has not emptied first: {sorted(read - emptied - machine)}")
     at.write("month", b"%d\n" % len(RUN) + RUN)
@@ -1557,7 +1545,7 @@ def surrounded(at):
              "./violstream desk examples/day.run examples/day.events", f"./violstream plan {plan}", f"./violstream ltfs VX0041 {LABEL} /dev/null",
              "./violstream version", "./violstream help", "./violstream", "./violstream nothing", "./violstream build",
              f"rm -rf book && ./violstream record book {run} && ./violstream audit book | head -n 3", "./violstream install /nowhere/../proc/none", f"./violstream install '{at.root}/prefix'", f"./violstream uninstall '{at.root}/prefix'",
-             "./violstream completions bash", "tools/edits.sh no-such", "tools/native.sh"]
+             "./violstream completions bash", "tools/edits.py no-such", "tools/native.sh"]
     unbuilt(at)
     os.rename(at.path("kept"), at.path("target.kept"))
 

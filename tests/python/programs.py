@@ -13,7 +13,7 @@ def arguments(about, crate):
     """A reader of arguments, with those that every comparison of a program takes."""
     reader = argparse.ArgumentParser(description=about)
     reader.add_argument("program", metavar="PROGRAM", nargs="?", default=os.path.join(ROOT, "target/bin", crate),
-                        help=f"default target/bin/{crate}, which 'rt check {crate}' makes")
+                        help=f"default target/bin/{crate}, which 'tools/build.sh check {crate}' makes")
     reader.add_argument("--native", action="store_true", help="PROGRAM was made by tools/native.sh, for this machine's own processor")
     reader.add_argument("--time", action="store_true", help="say how long one call takes, and compare nothing")
     return reader
