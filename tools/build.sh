@@ -70,7 +70,7 @@ told() {
     mkfifo "$rooms/said" || return
     tell "${begun:-}" < "$rooms/said" 8>&- &
     teller=$!
-    (cd "$here/crates/$1" && shift && exec env TMPDIR="$rooms" "$@") < "${given:-/dev/null}" 2> "$rooms/said" > "${apart:-$rooms/said}" 8>&- &
+    (cd "$here/crates/$1" && shift && export TMPDIR="$rooms" && exec "$@") < "${given:-/dev/null}" 2> "$rooms/said" > "${apart:-$rooms/said}" 8>&- &
     wait "$!"
     status=$?
     wait "$teller"
@@ -80,7 +80,7 @@ told() {
 
 # take PROGRAM FROM: it goes to its place at once, and whole; then the stamp.
 take() {
-    cp "$2" "$here/target/bin/.$1.part" && chmod 755 "$here/target/bin/.$1.part" && mv -f "$here/target/bin/.$1.part" "$here/target/bin/$1" && : > "$here/target/stamp/$1"
+    cp "$2" "$here/target/bin/.$1.part" && chmod 755 "$here/target/bin/.$1.part" && mv -f "$here/target/bin/.$1.part" "$here/target/bin/$1" && echo > "$here/target/stamp/$1"
 }
 
 # rt links a program, and runs it in its crate's folder. What it writes must be what the crate records.

@@ -1259,9 +1259,9 @@ def unbuilt(at):
         os.chmod(at.path(name), 0o755)
     for name in PROGRAMS:
         os.makedirs(at.path(f"crates/{name}/src"))
-        at.write(f"crates/{name}/src/main.rt", b"")
-        for part in ("stdin", "stdout"):
+        for part in ("src/main.rt", "stdin", "stdout"):
             shutil.copy(os.path.join(programs.ROOT, "crates", name, part), at.path(f"crates/{name}/{part}"))
+            os.utime(at.path(f"crates/{name}/{part}"), (0, 0))
     for name in BOUNDARIES:
         os.makedirs(at.path(f"crates/{name}/src"))
     at.write("calls", b"")

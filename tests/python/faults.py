@@ -57,7 +57,7 @@ esac
 """
 # Programs that tools/build.sh starts for a program, and for the library; and violstream itself, where it compiles the command. Each counts its starts, and fails
 # when it is told to. A copy is then cut short, as on a full disk, also by mv from another folder.
-STARTED = {BUILDING[0]: "chmod dirname env grep ln mkdir mkfifo mktemp rm rt sed", BUILDING[1]: "ar chmod cp dirname mktemp mv rm rt uname",
+STARTED = {BUILDING[0]: "chmod cmp cp dirname mkdir mkfifo mktemp mv rm rt tee uname", BUILDING[1]: "cat chmod cp dirname llvm-ar ln mkdir mkfifo mktemp mv nproc rattle rm sed sort tee tr uname",
            BUILDING[2]: "cksum cp find grep ln ls mkdir mv rm setpriv uname"}
 FAILING = """#!/bin/sh
 name=${0##*/} PATH=%s
@@ -225,16 +225,23 @@ class Tries:
         self.prepare(words)
         inside, before = self.at.path("failing"), dict(self.at.surroundings)
         os.makedirs(inside, exist_ok=True)
+        # Those of the kit stand in folders of their own, and are called by their place.
+        kit = before["RATTLE_HOME"]
+        path = ":".join((f"{kit}/bin", before["PATH"], f"{kit}/toolchain/bin"))
         for name in STARTED[words].split():
-            with open(os.path.join(inside, name), "w") as handle:
-                handle.write(FAILING % (before["PATH"], self.starts, self.starts))
-            os.chmod(os.path.join(inside, name), 0o755)
-        self.at.surroundings.update(PATH=inside + ":" + before["PATH"], RT_JOBS="1", RATTLE_HOME=self.at.temporary)
+            wrapper = os.path.join(inside, {"rattle": "bin/", "llvm-ar": "toolchain/bin/"}.get(name, "") + name)
+            os.makedirs(os.path.dirname(wrapper), exist_ok=True)
+            with open(wrapper, "w") as handle:
+                handle.write(FAILING % (path, self.starts, self.starts))
+            os.chmod(wrapper, 0o755)
+        if "llvm-ar" in STARTED[words].split():
+            os.symlink(f"{kit}/toolchain/bin/clang", f"{inside}/toolchain/bin/clang")
+        self.at.surroundings.update(PATH=inside + ":" + before["PATH"], RATTLE_HOME=inside)
         self.call_started(words, 0) # makes folders that stay
         self.prepare(words)
         whole, started = self.call_started(words, 0)
         if set(started) != set(STARTED[words].split()):
-            sys.exit(f"faults.py: for {words} the scripts start {sorted(set(started))}, and not {STARTED[words]}")
+            sys.exit(f"faults.py: for {words} the scripts start {sorted(set(started))}, and not {STARTED[words]}: {whole}")
         for number in range(1, len(started) + 1):
             self.prepare(words)
             tried, _ = self.call_started(words, number)
