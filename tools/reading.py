@@ -8,7 +8,7 @@ crate or, if it is a struct or an enum of the code, in src/; and so on, until no
 with the comments right above them; of an enum the variants that are named. Not counted are empty lines, the comment at the head of a
 file, and the 'use' lines, which say where a name stands. What the kit defines (numbers, lists, Booleans, equality) is not followed.
 
-Plans, priceAnswer and priceRows are not followed either: they are the contracts of the planner and of the pricer, by formulas. The demands
+Plans, price_answer and price_rows are not followed either: they are the contracts of the planner and of the pricer, by formulas. The demands
 have them as premises alone, "whatever answer fits the contract", and say of such an answer all that an auditor must know. That for every
 input an answer fits is proved: demands/proofs/Fits.
 
@@ -28,16 +28,16 @@ STATEMENTS = ("crates/demands/specs/*.antt", "crates/promises/specs/*.antt", "cr
               "crates/answer_ltfs/specs/Promises.antt", "crates/answer_pick/specs/Promises.antt", "crates/answer_pick/specs/Applies.antt",
               "crates/sheet_picks/specs/Promises.antt", "crates/tape_markup/specs/Promises.antt", "crates/tape_spans/specs/Promises.antt")
 ROOTS = ["crates/demands/specs/Demand%d.antt" % n for n in (1, 2, 3)]
-CUT_OFF = {"Plans", "priceAnswer", "priceRows"}
+CUT_OFF = {"Plans", "price_answer", "price_rows"}
 DEFINES = re.compile(r"^(?:pub |abbrev |unfoldable |record |data )+([^\s:{(]+)")
 TYPE = re.compile(r"^pub (struct|enum) (\w+)")
-IMPORT = re.compile(r"^use Rattle·(\w+)[·.]specs\.(?:specs\.)?([\w.-]+)\.\{([^}]*)\}", re.M)
-DECLARED = re.compile(r"declared\.(?:\w+\.)*?(\w+)(\.the-variants)?$")
-WORD = re.compile(r"(?:(\w+)::)?([A-Za-z][\w′-]*)")
-# With --all: a word that is no field (` .field`, `Type.Variant`); a constructor of a data type; what a program of the code cites; a public function up to its body.
-CITED = re.compile(r"(?<![\w.:′-])(?<! \.)([A-Za-z][\w′-]*)")
-CONSTRUCTOR = re.compile(r"^  ([A-Za-z][\w′-]*) :")
-GHOST = re.compile(r"^ghost use Rattle·(\w+)[·.]specs\.(?:specs\.)?([\w.]+)\.\{([^}]*)\}", re.M)
+IMPORT = re.compile(r"^use Rattle\.(\w+)\.specs\.([\w.-]+)\.\{([^}]*)\}", re.M)
+DECLARED = re.compile(r"declared\.(?:\w+\.)*?(\w+)(\.TheVariants)?$")
+WORD = re.compile(r"(?:(\w+)::)?([A-Za-z][\w'-]*)")
+# With --all: a word that is no field (`r.field`, `Type.Variant`); a constructor of a data type; what a program of the code cites; a public function up to its body.
+CITED = re.compile(r"(?<![\w.:'-])([A-Za-z][\w'-]*)")
+CONSTRUCTOR = re.compile(r"^  ([A-Za-z][\w'-]*) :")
+GHOST = re.compile(r"^ghost use Rattle\.(\w+)\.specs\.([\w.]+)\.\{([^}]*)\}", re.M)
 CONTRACT = re.compile(r"^pub (?:extern \"C\" )?fn (?!main\b).*?^\{", re.M | re.S)
 
 
@@ -59,6 +59,8 @@ def in_specs(path):
             end -= 1
         defined[name] = with_comment(lines, at, end, "--")
     for crate, module, imported in IMPORT.findall(text):
+        if not os.path.isdir("crates/%s" % crate):
+            continue
         declared = DECLARED.match(module)
         for name in re.split(r",\s*", imported):
             if declared:
@@ -161,7 +163,8 @@ class Specs:
         for path in sorted(glob.glob("crates/*/src/*.rt")):
             text = open(path, encoding="utf-8").read()
             names = {name: ("crates/%s/specs/%s.antt" % (at, module.replace(".", "/")), name)
-                     for at, module, imported in GHOST.findall(text) for name in re.split(r",\s*", imported) if not module.startswith("declared")}
+                     for at, module, imported in GHOST.findall(text) if os.path.isdir("crates/%s" % at)
+                     for name in re.split(r",\s*", imported) if not module.startswith("declared")}
             for contract in CONTRACT.findall(text):
                 for word in set(CITED.findall(" ".join(re.findall(r"^ +(?:ensures|requires) .*", contract, re.M)))) & set(names):
                     yield self.definition(*names[word])

@@ -28,7 +28,7 @@ MOST = 500
 STATEMENTS = ("crates/demands/specs", "crates/promises/specs")
 PRIVATE = re.compile(r"/specs/Private[/.]")
 # A law: a name and its type, with nothing before them that makes it a definition; and the words that proofs are made of.
-LAW = re.compile(r"^(?:pub )?([\w′-]+) :")
+LAW = re.compile(r"^(?:pub )?([\w'-]+) :")
 PROVES = re.compile(r"\b(refl|rw|omega|search|absurd|subst|sym|tt|proofs)\b")
 
 
@@ -88,21 +88,21 @@ CHECKS = (too_long, through_private, proofs_among_statements, names_twice, words
 DEMAND, OTHER, FIRST = "crates/demands/specs/Demand3.antt", "crates/demands/specs/Alone.antt", "abbrev pub AloneAsBefore : Type 0\n"
 PLANTED = (
     (too_long, DEMAND, [("\n-- Every movement", "\n" + "-- A line more.\n" * 40 + "-- Every movement")]),
-    (through_private, DEMAND, [("use Rattle·runs.specs.Run.", "use Rattle·runs.specs.Private.{rowNamed}\nuse Rattle·runs.specs.Run."),
-                               ("    → AsksNoLess first second\n", "    → rowNamed [] [] 0 ≡ rowNamed [] [] 0\n")]),
+    (through_private, DEMAND, [("use Rattle.runs.specs.Run.", "use Rattle.runs.specs.Private.{row_named}\nuse Rattle.runs.specs.Run."),
+                               ("    → AsksNoLess first second\n", "    → row_named [] [] 0 ≡ row_named [] [] 0\n")]),
     (proofs_among_statements, OTHER, [(FIRST, "pub alone : AloneAsBefore\n" + FIRST)]),
     (proofs_among_statements, OTHER, [(FIRST, "abbrev pub same : 0 ≡ 0\nsame = refl\n" + FIRST)]),
-    (names_twice, OTHER, [(FIRST, "abbrev pub stopsOf : Type 0\n" + FIRST)]),
-    (words_unlisted, reading.AUDIT, [("`text_bytes/specs/Text`: `lineFeed`, `comma`", "`text_bytes/specs/Text`: `lineFeed`")]),
+    (names_twice, OTHER, [(FIRST, "abbrev pub stops_of : Type 0\n" + FIRST)]),
+    (words_unlisted, reading.AUDIT, [("`text_bytes/specs/Text`: `line_feed`, `comma`", "`text_bytes/specs/Text`: `line_feed`")]),
     (words_unlisted, reading.AUDIT, [("| `runs/specs/Lists`: `Detour`, ", "| `runs/specs/Lists`: ")]),
-    (words_unlisted, DEMAND, [("use Rattle·runs.specs.Run.", "use Rattle·runs.specs.Judging.{headChecks}\nuse Rattle·runs.specs.Run."),
-                              ("    → AsksNoLess first second\n", "    → headChecks 0 0 0 ≡ headChecks 0 0 0\n")]),
-    (words_unlisted, "crates/runs/src/any_head.rt", [("AnyHead.{smaller, liftedHead}", "AnyHead.{pulled, liftedHead}"), ("⌜ r ≡ smaller start head ⌝", "⌜ r ≡ pulled start head ⌝")]),
-    (words_uncited, reading.AUDIT, [("`text_bytes/specs/Text`: `lineFeed`, `comma`", "`text_bytes/specs/Text`: `lineFeed`, `comma`, `decimalIn`")]),
+    (words_unlisted, DEMAND, [("use Rattle.runs.specs.Run.", "use Rattle.runs.specs.Judging.{head_checks}\nuse Rattle.runs.specs.Run."),
+                              ("    → AsksNoLess first second\n", "    → head_checks 0 0 0 ≡ head_checks 0 0 0\n")]),
+    (words_unlisted, "crates/runs/src/any_head.rt", [("AnyHead.{smaller, lifted_head}", "AnyHead.{pulled, lifted_head}"), ("result ≡ smaller start head", "result ≡ pulled start head")]),
+    (words_uncited, reading.AUDIT, [("`text_bytes/specs/Text`: `line_feed`, `comma`", "`text_bytes/specs/Text`: `line_feed`, `comma`, `decimal_in`")]),
     (words_uncited, reading.AUDIT, [("| `walk/specs/Walk`; ", "| `walk/specs/Walk`; `least/specs/Slopes`; ")]),
     (words_uncited, reading.AUDIT, [("| `runs/specs/Lists`: `Detour`, ", "| `text_bytes/specs/Text`: `comma`; `runs/specs/Lists`: `Detour`, ")]),
     (said_by_another, reading.AUDIT, [("| `demands/specs/Letters`: `KeysAreSpelled` |", "| `demands/specs/Letters`: `Digits` |")]),
-    (lines_misstated, reading.AUDIT, [("`boardingOf` | 9 |", "`boardingOf` | 8 |")]),
+    (lines_misstated, reading.AUDIT, [("`boarding_of` | 9 |", "`boarding_of` | 8 |")]),
 )
 
 
