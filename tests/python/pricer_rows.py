@@ -92,6 +92,8 @@ class Reader:
     def read_item(self, kind):
         word = self.take().text
         if word == "#":
+            if self.peek() == "!":
+                self.take("!")
             self.enclosed("[", "]")
         elif word == "ghost" or word == "mod":
             self.until(";")
@@ -131,7 +133,9 @@ class Reader:
         name = self.take().text
         signature = self.enclosed("(", ")") + self.until("requires", "ensures", "{")
         while self.peek() != "{":
+            # A clause, which may have a name.
             self.take()
+            self.until("{")
             self.enclosed("{", "}")
         opened = self.tokens[self.next].at + 1
         body = self.enclosed("{", "}")

@@ -15,27 +15,27 @@ import programs
 
 # For each program its rows, by the definitions of specs/Lengths.
 ROWS = {
-    "plan": {"out": "planRow"},
-    "plan_any": {"out": "planRow"},
-    "field": {"out": "planRow"},
-    "buys": {"out": "buysRow"},
-    "buys_any": {"out": "buysRow"},
-    "price": {"out": "priceRow"},
-    "check": {"out": "checkRow"},
-    "month": {"page": "monthRow"},
-    "mend": {"out": "sheetRow", "notes": "changesRow"},
-    "rewrite": {"out": "sheetRow"},
-    "ltfs": {"out": "sheetRow", "notes": "reportRow"},
-    "desk::print_refusal": {"out": "refusalRow"},
-    "desk::print_waiting": {"out": "waitingRow"},
-    "desk::take_event": {"out": "eventRow"},
+    "plan": {"out": "plan_row"},
+    "plan_any": {"out": "plan_row"},
+    "field": {"out": "plan_row"},
+    "buys": {"out": "buys_row"},
+    "buys_any": {"out": "buys_row"},
+    "price": {"out": "price_row"},
+    "check": {"out": "check_row"},
+    "month": {"page": "month_row"},
+    "mend": {"out": "sheet_row", "notes": "changes_row"},
+    "rewrite": {"out": "sheet_row"},
+    "ltfs": {"out": "sheet_row", "notes": "report_row"},
+    "desk::print_refusal": {"out": "refusal_row"},
+    "desk::print_waiting": {"out": "waiting_row"},
+    "desk::take_event": {"out": "event_row"},
 }
 # What puts the text into a row, where a statement speaks of that text.
 PUT = {
     "desk::print_refusal": "sheet_writer::write_refusal(verdict, &mut out)",
     "desk::print_waiting": 'text_pages::put_pair_line(&mut out, 0, b"waiting=", ones, twos)',
 }
-NUMBER = re.compile(r"^(\w+Row) = (\d+)$", re.M)
+NUMBER = re.compile(r"^(\w+_row) = (\d+)$", re.M)
 ROW = re.compile(r"let mut (\w+) = \[0u8; (\d+)\];")
 GIVEN = re.compile(r"let mut (\w+) = (\w+)\(\);")
 PRINTED = re.compile(r"io::write_all\(\s*STD\w+,\s*([^;]*)\);")
@@ -63,7 +63,7 @@ def judged(name, text, numbers):
 
 
 def main():
-    numbers = dict(NUMBER.findall(read("crates/promises/specs/Lengths.antt")), eventRow=EVENT.search(read("crates/promises/specs/DeskDays.antt"))[1])
+    numbers = dict(NUMBER.findall(read("crates/promises/specs/Lengths.antt")), event_row=EVENT.search(read("crates/promises/specs/DeskDays.antt"))[1])
     texts = {folder[4:]: read(f"crates/{folder}/src/main.rt") for folder in os.listdir(os.path.join(programs.ROOT, "crates")) if folder.startswith("cmd_")}
     desk = texts.pop("desk")
     texts.update((f"desk::{part[1]}", part[0]) for part in FUNCTION.finditer(desk) if PRINTED.search(part[0]))
