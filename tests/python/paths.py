@@ -1,6 +1,6 @@
 #!/usr/bin/env python3
 """Reads every proof that a person wrote: a path of eight `.before` or more stands only in an abbrev that names it, and no line is
-longer than 1,000 characters. What tools/derive.py wrote is left out.
+longer than 1,000 characters.
 
 usage: tests/python/paths.py
 """
@@ -9,8 +9,8 @@ import os
 import re
 import sys
 
-LONG = re.compile(r"\.before(?:\s+\.before){7,}")
-NAMING = re.compile(r"^abbrev [^\n]*\n(?: [^\n]*\n)*\S+(?: \S+)* = \S+(?: \.before)+$", re.M)
+LONG = re.compile(r"\.before(?:\s*\.before){7,}")
+NAMING = re.compile(r"^abbrev [^\n]*\n(?: [^\n]*\n)*\S+(?: \S+)* = \w[\w-]*(?:\s*\.before)+$", re.M)
 
 
 def faults(text):
@@ -25,13 +25,12 @@ def faults(text):
 
 
 def main():
-    path = "c" + " .before" * 8
-    planted = [f"f : T\nf c = g ({path} .args)", f"abbrev f : T\nf c = {path} .args", f"f : T\nf c = {path}", f"f : let a = {path} in T", "x" * 1001]
+    path = "c" + ".before" * 8
+    planted = [f"f : T\nf c = g {path}.args", f"abbrev f : T\nf c = {path}.args", f"f : T\nf c = {path}", f"f : let a = {path} in T", "x" * 1001]
     if [len(list(faults(text))) for text in planted] != [1] * 5 or list(faults(f"abbrev f : T → S\nf c = {path}\n\n" + "x" * 1000)):
         sys.exit("paths.py: it does not find what it must, or finds what it must not")
     root = os.path.join(os.path.dirname(os.path.abspath(__file__)), "..", "..")
     proofs = {f: open(f, encoding="utf-8").read() for f in sorted(glob.glob(os.path.join(root, "crates/*/proofs/**/*.antt"), recursive=True))}
-    proofs = {f: text for f, text in proofs.items() if not text.startswith("-- Derived by tools/derive.py")}
     found = [f"{os.path.relpath(f, root)}:{line}: {what}" for f, text in proofs.items() for line, what in faults(text)]
     if found or not proofs:
         sys.exit("\n".join(found or ["paths.py: there is no proof"]))
