@@ -1,7 +1,7 @@
 #!/bin/sh
 # The README's commands and the Debian package on a machine that has nothing of ours: fresh Debian roots, made by debootstrap and entered by chroot.
 #
-#   tests/clean.sh [--sh busybox] [--arch arm64] [--proved TARGET] [--package FILE] [--before FILE] FOLDER STEP...
+#   tests/clean.sh [--sh busybox] [--arch arm64] [--proved CHECKOUT] [--package FILE] [--before FILE] FOLDER STEP...
 #
 #   first        a fresh clone, an ordinary user, the packages that the README names: `./violstream plan < examples/VX0041.run` prints its plan. Three minutes
 #                on two idle cores
@@ -12,7 +12,7 @@
 #
 # FOLDER keeps the roots: base as debootstrap made it, and for each --sh one with the clone and one for the package, the last made anew each time. --sh: busybox in place of dash
 # as sh. --arch arm64: roots of that processor, whose programs an emulator runs that the kernel knows (Debian: qemu-user-static, binfmt-support); where the kit has nothing for it, --proved
-# must say where rt has proved. --proved: the folder target/ of another clone, of which what rt has proved and built is taken, so that first and test= need not prove it again. --package: by default what `./violstream deb` has made in target/command/deb. --before: the package of the version before; by default the same one
+# must say where rt has proved. --proved: another clone, of which what rt has proved and built is taken, so that first and test= need not prove it again. --package: by default what `./violstream deb` has made in target/command/deb. --before: the package of the version before; by default the same one
 # with another number, another library and a file that the new one has no more.
 #
 # It needs root, debootstrap and a mirror of Debian, and 1.5 GB in FOLDER. Mounts are of namespaces of their own, and end with what runs there.
@@ -22,7 +22,7 @@ here=$(cd "$(dirname "$0")/.." && pwd)
 . "$here/tools/machine.sh"
 suite=bookworm
 mirror=http://deb.debian.org/debian
-usage='usage: tests/clean.sh [--sh busybox] [--arch arm64] [--proved TARGET] [--package FILE] [--before FILE] FOLDER first|test=NAME|package...'
+usage='usage: tests/clean.sh [--sh busybox] [--arch arm64] [--proved CHECKOUT] [--package FILE] [--before FILE] FOLDER first|test=NAME|package...'
 shell=dash arch=amd64 base=base proved='' package='' before='' user=reader
 
 fail() {
@@ -38,7 +38,7 @@ while [ $# -gt 0 ]; do
     case $1 in
         --sh) [ "${2:-}" = busybox ] || [ "${2:-}" = dash ] || fail "--sh takes dash or busybox" 2; shell=$2 ;;
         --arch) [ "${2:-}" = arm64 ] || [ "${2:-}" = amd64 ] || fail "--arch takes amd64 or arm64" 2; arch=$2 ;;
-        --proved) proved=$(readlink -f "${2:-}") || fail "--proved takes a folder" 2 ;;
+        --proved) proved=$(readlink -f "${2:-}") || fail "--proved takes a checkout" 2 ;;
         --package) package=$(readlink -f "${2:-}") || fail "--package takes a file" 2 ;;
         --before) before=$(readlink -f "${2:-}") || fail "--before takes a file" 2 ;;
         -*) fail "$usage" 2 ;;
@@ -115,10 +115,16 @@ take_proved() {
     clone=$made/home/$user/violstream
     if [ -n "$proved" ]; then
         mkdir -p "$clone/target" || exit 1
-        for name in rlib obj bin stamp staticlib; do
+        for name in bin stamp staticlib; do
             rm -rf "${clone:?}/target/$name"
-            cp -r "$proved/$name" "$clone/target/$name" || exit 1
+            cp -r "$proved/target/$name" "$clone/target/$name" || exit 1
         done
+        for name in "$proved"/crates/*/out/rlib; do
+            name=${name#"$proved/"}
+            mkdir -p "$clone/${name%/rlib}" && cp -r "$proved/$name" "$clone/$name" || exit 1
+        done
+        # Newer than every source.
+        touch "$clone"/target/bin/* "$clone"/target/staticlib/*.a "$clone"/crates/*/out/rlib/*.rlib || exit 1
     fi
     chown -R "$(stat -c %u:%g "$made/home/$user")" "$clone"
 }
@@ -129,7 +135,7 @@ first() {
         fresh_root checkout
         [ -n "$(readme_packages)" ] || fail "the README names no packages"
         # shellcheck disable=SC2046  # packages are words
-        apt "$made" $(readme_packages)
+        apt "$made" python3 $(readme_packages)
         mkdir -p "$made$(kit)"
         touch "$made/.made"
     fi

@@ -5,7 +5,7 @@
 #   tests/run.sh [--install-tools] [--calls N] [--only TEST] [ARCHIVE]
 #
 # ARCHIVE: the library (default target/staticlib/libviolstream.a, which `tools/build.sh library violstream` makes). The programs that
-# the comparisons in Python run are those in target/bin, which `rt check` makes.
+# the comparisons in Python run are those in target/bin, which `tools/build.sh` makes.
 # --install-tools: as root on Debian, what is missing is fetched by apt-get; tools.sh beside this file says what is needed.
 # --calls N: random calls of each comparison in C and Rust (by default what takes about 20 seconds each; emulated, 100,000).
 # --only TEST: that one alone, by its name at the end of this file.

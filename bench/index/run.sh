@@ -5,7 +5,7 @@
 #
 # --files: of so many files (default 100000); of several indexes all are timed in one run, in turn.
 # A crate of three functions that hand their texts on is made here, in a temporary folder, and compiled for this machine over the proved crates by
-# tools/native.sh, and so is the call violstream_pick: `rt check answer_ltfs boundary_pick` comes first. CC and CFLAGS as for bench/run.sh.
+# tools/native.sh, and so is the call violstream_pick: `rt lib` in the folders of these crates comes first. CC and CFLAGS as for bench/run.sh.
 set -eu
 unset -v CDPATH
 
@@ -30,14 +30,16 @@ done
 for tool in python3 "${CC:-gcc}"; do
     command -v "$tool" > /dev/null || fail "no $tool"
 done
-for crate in answer_ltfs boundary_pick; do
-    [ -e "$here/target/stamp/$crate" ] || fail "$crate is not proved; 'rt check $crate' proves it"
+for crate in answer_ltfs tape_picks boundary_pick; do
+    [ -e "$here/crates/$crate/out/rlib/$crate.rlib/format" ] || fail "$crate is not proved; 'rt lib' in its folder proves it"
 done
 
 mkdir -p "$out/above/src"
 cat > "$out/above/src/lib.rt" << 'END'
 // The readers of an index, for index.c.
-#[no_mangle]
+#![tactic(auto)]
+
+#[unsafe(no_mangle)]
 pub extern "C" fn bench_balanced(index: &[u8]) -> u64 {
     if tape_markup::is_balanced(index) {
         return 1;
@@ -45,7 +47,7 @@ pub extern "C" fn bench_balanced(index: &[u8]) -> u64 {
     0
 }
 
-#[no_mangle]
+#[unsafe(no_mangle)]
 pub extern "C" fn bench_ltfs(label: &[u8], index: &[u8]) -> u64 {
     let mut out = [0u8; 64];
     let report = answer_ltfs::table_sheet(b"VX0041", label, index, &mut out);
@@ -53,7 +55,7 @@ pub extern "C" fn bench_ltfs(label: &[u8], index: &[u8]) -> u64 {
     refusals::number(refusal)
 }
 
-#[no_mangle]
+#[unsafe(no_mangle)]
 pub extern "C" fn bench_picks(index: &[u8], list: &[u8], states: &mut [u64], starts: &mut [u64], ends: &mut [u64]) -> u64 {
     if tape_picks::find_files(index, list, 0, 524288, 98, states, starts, ends) {
         return 1;

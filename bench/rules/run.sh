@@ -1,5 +1,5 @@
 #!/bin/sh
-# Plans runs by the papers' rules of thumb and by ARCHIVE (default target/staticlib/libboundary.a), and prints a table.
+# Plans runs by the papers' rules of thumb and by ARCHIVE (default target/staticlib/libviolstream.a), and prints a table.
 #
 #   bench/rules/run.sh [--native] [--svg FILE] [--lines FILE] [ARCHIVE]
 #
@@ -11,7 +11,7 @@ set -eu
 
 here=$(cd "$(dirname "$0")/../.." && pwd)
 . "$here/tools/machine.sh"
-archive=$here/target/staticlib/libboundary.a
+archive=$here/target/staticlib/libviolstream.a
 
 fail() {
     printf 'bench/rules/run.sh: %s\n' "$1" >&2
@@ -35,7 +35,7 @@ cc=${CC:-$cc}
 for tool in make python3 "$cc" $emulator; do
     command -v "$tool" > /dev/null || fail "no $tool"
 done
-[ -f "$archive" ] || fail "no archive at $archive; 'rt staticlib boundary' makes it"
+[ -f "$archive" ] || fail "no archive at $archive; 'tools/build.sh library violstream' makes it"
 
 cp "$archive" "$out/libviolstream.a"
 make -s -C "$here/tests/c" CC="$cc" CFLAGS="${CFLAGS:--O3}" ARCHIVE="$out/libviolstream.a" OUT="$out" rules_bench
