@@ -204,7 +204,9 @@ impl Build<'_> {
 /// wrong programs are built by nobody, and what rt makes stands beside the sources.
 fn any_newer(folder: &Path, than: SystemTime) -> bool {
     let is_newer = |entry: DirEntry| match entry.file_type() {
-        Ok(kind) if kind.is_dir() => !["proofs", "must-fail", "out"].contains(&&*entry.file_name().to_string_lossy()) && any_newer(&entry.path(), than),
+        Ok(kind) if kind.is_dir() => {
+            !["proofs", "must-fail", "out"].contains(&&*entry.file_name().to_string_lossy()) && any_newer(&entry.path(), than)
+        }
         Ok(kind) => kind.is_file() && is_newer(entry.metadata(), than),
         Err(_) => true,
     };
