@@ -53,7 +53,7 @@ tell() {
                 [ -z "$proved" ] || echo 'left' > "$here/target/log/$proved.out"
                 proved=${line##* } began=$SECONDS && : > "$here/target/log/$proved.out"
                 ;;
-            'rt: running '* | 'rt: nothing has changed '*) ;;
+            'rt: running '* | 'rt: nothing has changed '* | 'rt: '*': begins with what a check kept '*) ;;
             logic=proved*)
                 printf '%s\n' "$line"
                 [ -z "$proved" ] || printf 'rt: %s proved (%s s)\n' "$proved" "$((SECONDS - began))" | tee "$here/target/log/$proved.out"
