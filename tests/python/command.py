@@ -1549,6 +1549,10 @@ def surrounded(at):
     unbuilt(at)
     os.rename(at.path("kept"), at.path("target.kept"))
 
+    def untimed(said):
+        """The lines in any order, and without the seconds that a proof took."""
+        return sorted(re.sub(r" proved \(\d+ s\)$", "", line) for line in said.split("\n"))
+
     def all_lines():
         """What every line gives, from nothing built on."""
         forget_built(at)
@@ -1563,7 +1567,7 @@ def surrounded(at):
         for hostile in (canary, str(sleeper.pid), "cat"):
             at.surroundings.update({name: hostile for name in names})
             for clean, now in zip(must, all_lines()):
-                if (clean[1], clean[3]) != (now[1], now[3]) or sorted(clean[2].split("\n")) != sorted(now[2].split("\n")):
+                if (clean[1], clean[3]) != (now[1], now[3]) or untimed(clean[2]) != untimed(now[2]):
                     raise Wrong(f"with every name set to {hostile!r} {now[0]!r} gives {now[1:]}, and must give {clean[1:]}")
         if not os.path.isdir(os.path.join(canary, "tools/tools")) or os.listdir(canary) != ["tools"]:
             raise Wrong("a folder that a name of the environment holds was changed")
