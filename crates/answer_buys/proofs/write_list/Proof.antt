@@ -6,6 +6,10 @@ use borrow.Author.Rules.{rules}
 use Rattle.answer_buys.proofs.write_list.Statement.{statement}
 use Rattle.answer_buys.proofs.write_list.Tie as tie
 
+-- The way back from a place in the code to the one that the name says.
+abbrev at-tape_name : tie.After-slice_known-2-1 → tie.After-tape_name
+at-tape_name c = c.before.before.before.before.before.before.before.before
+
 -- From the verdict back to the start, and from the name back to where the list has passed.
 abbrev start : tie.After-refused → tie.Start
 start f = f.before.before.before.before
@@ -56,7 +60,7 @@ returns-2 c =
     let e2 = w in
     let e1 = e2 in
     let n = e1 in
-    let p = passed n.before.before.before.before.before.before.before.before in
+    let p = passed (at-tape_name n) in
     let a = (start p.before).args in
     text_written FigureWritten a.sheet.now a.run a.list a.out.now _ p.refused.ensures p.if-refused.false n.tape_name.ensures.0 e1.entries.ensures.0 e2.entries-2.ensures.0
     w.write_text-text.result _ w.write_text-text.ensures

@@ -6,6 +6,10 @@ use borrow.Author.Rules.{rules}
 use Rattle.answer_desk.proofs.answer.Statement.{statement}
 use Rattle.answer_desk.proofs.answer.Tie as tie
 
+-- The way back from a place in the code to the one that the name says.
+abbrev at-read_event : tie.After-slice_known-in-Board-2-1 → tie.After-read_event
+at-read_event c = c.before.before.before.before.before.before.before.before
+
 abbrev tape : tie.Start → Tape
 tape s = let a = s.args in record { starts = a.starts.now; lengths = a.lengths.now; aggregates = a.aggregates.now }
 
@@ -73,7 +77,7 @@ returns-3 c =
     let b = c in
     let h = b in
     let re = h in
-    let s = at-start re.before.before.before.before.before.before.before.before in
+    let s = at-start (at-read_event re) in
     board_answered s.args.len (tape s) s.args.day s.args.room.now s.args.out.now _ _ re.read_event.ensures _ _ _ _ h.in-Board.is _ b.board.ensures
 
 returns-4 : tie.Need-returns-in-Bad

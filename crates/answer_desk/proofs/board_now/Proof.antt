@@ -8,6 +8,10 @@ use borrow.Author.Rules.{rules}
 use Rattle.answer_desk.proofs.board_now.Statement.{statement}
 use Rattle.answer_desk.proofs.board_now.Tie as tie
 
+-- The way back from a place in the code to the one that the name says.
+abbrev at-refused : tie.After-answer_by → tie.After-refused
+at-refused c = c.before.before.before.before.before.before.before.before.before.before
+
 long : (s : tie.Start) → length s.args.day.row ≡ 32
 long s = search (rules, unmapped)
 
@@ -61,7 +65,7 @@ answer-by-requires : tie.Need-answer_by-requires
 answer-by-requires c κs = search rules
 
 same-length-2 : tie.Need-shape_of-room
-same-length-2 c = let s = c in (boarded s.before.before.before.before.before.before.before.before.before.before).board_in-done.auto.room
+same-length-2 c = let s = c in (boarded (at-refused s)).board_in-done.auto.room
 
 same-length-3 : tie.Need-shape_of-out
 same-length-3 c = c.say_boarding-written.auto.out
@@ -71,7 +75,7 @@ returns-2 c =
     let s = c in
     let e = s in
     let f = e in
-    let b = boarded f.before.before.before.before.before.before.before.before.before.before in
+    let b = boarded (at-refused f) in
     let a = (start b).args in
     now_told a.len _ a.day a.boarding _ _ b.board_in-done.result _ b.board_in-done.ensures _ f.refused.ensures _ e.if-refused.false _ _ s.say_boarding-written.ensures c.answer_by.ensures
 

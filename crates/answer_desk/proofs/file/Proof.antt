@@ -5,6 +5,10 @@ use borrow.Author.Rules.{rules}
 use Rattle.answer_desk.proofs.file.Statement.{statement}
 use Rattle.answer_desk.proofs.file.Tie as tie
 
+-- The way back from a place in the code to the one that the name says.
+abbrev at-refused : tie.After-answer_by → tie.After-refused
+at-refused c = c.before.before.before.before.before.before.before.before.before.before
+
 -- From the test of the verdict back to the work by value.
 abbrev worked : tie.After-refused → tie.After-file_in-done
 worked f = f.before.before.before
@@ -40,7 +44,7 @@ returns-2 c =
     let s = c in
     let e = s in
     let f = e in
-    let w = worked f.before.before.before.before.before.before.before.before.before.before in
+    let w = worked (at-refused f) in
     let a = w.args in
     filing_said a.len a.day _ _ _ a.filing w.file_in-done.result w.file_in-done.ensures f.refused.ensures e.if-refused.false _ _ s.say_pair-written.ensures c.answer_by.ensures
 

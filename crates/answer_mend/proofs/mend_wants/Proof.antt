@@ -7,6 +7,10 @@ use Rattle.answer_mend.proofs.Answers.{wants_none, wants_writable, wants_handed}
 use Rattle.answer_mend.proofs.mend_wants.Statement.{statement}
 use Rattle.answer_mend.proofs.mend_wants.Tie as tie
 
+-- The way back from a place in the code to the one that the name says.
+abbrev at-gather-many : tie.After-slice_known-4-1 → tie.After-gather-many
+at-gather-many c = c.before.before.before.before.before.before.before.before.before.before.before.before
+
 slice-aggregate-gather : tie.Need-slice_bounds-gather-end
 slice-aggregate-gather c = search rules
 
@@ -57,7 +61,7 @@ returns-2 c =
     let e1 = wm in
     let jw = e1 in
     let g = jw in
-    wants_handed _ _ _ _ (at-start g.before.before.before.before.before.before.before.before.before.before.before.before).requires _ _ g.gather-many.ensures _ jw.judge_wants-verdict.ensures _ e1.refused.ensures _ _ _ _ e1.if-refused.false _ _ _ wm.write_mended.ensures
+    wants_handed _ _ _ _ (at-start (at-gather-many g)).requires _ _ g.gather-many.ensures _ jw.judge_wants-verdict.ensures _ e1.refused.ensures _ _ _ _ e1.if-refused.false _ _ _ wm.write_mended.ensures
 
 pub mend_wants_spec : {M : Type 1} → statement M
 mend_wants_spec =

@@ -7,6 +7,10 @@ use borrow.Author.Rules.{rules}
 use Rattle.answer_rewrite.proofs.rewrite.Statement.{statement}
 use Rattle.answer_rewrite.proofs.rewrite.Tie as tie
 
+-- The way back from a place in the code to the one that the name says.
+abbrev at-refused : tie.After-slice_known-2-1 → tie.After-refused
+at-refused c = c.before.before.before.before.before.before.before.before.before
+
 judge-requires : tie.Need-judge-read-requires
 judge-requires c κs = search rules
 
@@ -65,7 +69,7 @@ returns-3 c =
     let f = c in
     let r2 = f in
     let fp = r2 in
-    rewritten_so _ (at-start fp.before.before.before.before.before.before.before.before.before).args.out.now _ fp.judge-read.ensures _ fp.refused.ensures
+    rewritten_so _ (at-start (at-refused fp)).args.out.now _ fp.judge-read.ensures _ fp.refused.ensures
     fp.if-refused.false _ fp.find_price-price.ensures.long _ r2.judge_result-verdict.ensures _ r2.refused-2.ensures f.if-refused-2.false _ _
     fp.find_price-price.ensures.result f.fill.ensures
 

@@ -9,6 +9,10 @@ use Rattle.boundary_desk.proofs.settle.Statement.{statement}
 use Rattle.boundary_desk.proofs.settle.Tie as tie
 
 -- The way back from a place in the code to the one that the name says.
+abbrev at-code_of-code : tie.After-slice_known-4-1 → tie.After-code_of-code
+at-code_of-code c = c.before.before.before.before.before.before.before.before.before.before.before.before.before.before
+
+-- The way back from a place in the code to the one that the name says.
 abbrev at-start : tie.After-code_of-code → tie.Start
 at-start c = c.before.before.before.before.before
 
@@ -60,7 +64,7 @@ returns-2 c =
     let e = t in
     let f = e in
     let d = f in
-    let a = (at-start d.before.before.before.before.before.before.before.before.before.before.before.before.before.before).args in
+    let a = (at-start (at-code_of-code d)).args in
     settled_done a.row a.done a.tickets.now a.taken.now a.sums.now _ d.code_of-code.ensures _ f.refused.ensures e.if-refused.false _ t.put_table.ensures _ k.put_taken.ensures _ q.fill_sums.ensures
 
 pub settle_spec : {M : Type 1} → statement M

@@ -11,6 +11,13 @@ use borrow.Author.Rules.{rules}
 use Rattle.boundary_desk.proofs.violstream_event.Statement.{statement}
 use Rattle.boundary_desk.proofs.violstream_event.Tie as tie
 
+-- The way back from a place in the code to the one that the name says.
+abbrev at-refused : tie.After-slice_known-7-1 → tie.After-refused
+at-refused c = c.before.before.before.before.before.before.before.before.before.before.before
+
+abbrev at-else-refused : tie.After-slice_known-7-1 → tie.Else-refused
+at-else-refused c = c.before.before.before.before.before.before.before.before.before.before
+
 abbrev tape : tie.Start → Tape
 tape s = let a = s.args in record { starts = a.starts.now; lengths = a.lengths.now; aggregates = a.aggregates.now }
 
@@ -123,16 +130,16 @@ same-length-6 : tie.Need-shape_of-lasts
 same-length-6 c = c.put_lasts.auto.lasts
 
 same-length-7 : tie.Need-shape_of-out
-same-length-7 c = let t = c in (at-work t.before.before.before.before.before.before.before.before.before.before.before).answer-done.auto.out
+same-length-7 c = let t = c in (at-work (at-refused t)).answer-done.auto.out
 
 same-length-8 : tie.Need-shape_of-room
-same-length-8 c = let t = c in (at-work t.before.before.before.before.before.before.before.before.before.before.before).answer-done.auto.room
+same-length-8 c = let t = c in (at-work (at-refused t)).answer-done.auto.room
 
 same-length-9 : tie.Need-shape_of-sizes
 same-length-9 c =
     let t = c in
     let f = t in
-    length-set (at-start-from-refused f.before.before.before.before.before.before.before.before.before.before.before).args.sizes.now 0 (at-work f.before.before.before.before.before.before.before.before.before.before.before).answer-done.result.bytes
+    length-set (at-start-from-refused (at-refused f)).args.sizes.now 0 (at-work (at-refused f)).answer-done.result.bytes
 
 returns-2 : tie.Need-returns
 returns-2 c =
@@ -140,7 +147,7 @@ returns-2 c =
     let t = q in
     let e = t in
     let f = e in
-    let w = at-work f.before.before.before.before.before.before.before.before.before.before.before in
+    let w = at-work (at-refused f) in
     let o = at-line w in
     let li = o in
     let ta = li in
@@ -148,7 +155,7 @@ returns-2 c =
     let a = s.args in
     event_done a.tickets.now a.lasts.now a.sizes.now (tape s) a.line.now a.out.now a.room.now _ _ _ _ _ _ _ _ ta.table_at-row.ensures
     li.lasts_in-numbers.ensures o.places_if-fit.ensures o.places_if-len.ensures o.one_line-bytes.ensures.0 w.answer-done.ensures _ f.refused.ensures
-    e.if-refused.false _ f.code_of-code.ensures _ t.put_table.ensures _ q.put_lasts.ensures _ (one_set _ a.sizes.now (fits e.before.before.before.before.before.before.before.before.before.before).one)
+    e.if-refused.false _ f.code_of-code.ensures _ t.put_table.ensures _ q.put_lasts.ensures _ (one_set _ a.sizes.now (fits (at-else-refused e)).one)
 
 pub violstream_event_spec : {M : Type 1} → statement M
 violstream_event_spec =

@@ -12,6 +12,13 @@ use Rattle.boundary_desk.proofs.violstream_file.Statement.{statement}
 use Rattle.boundary_desk.proofs.violstream_file.Tie as tie
 
 -- The way back from a place in the code to the one that the name says.
+abbrev at-refused : tie.After-slice_known-3-1 → tie.After-refused
+at-refused c = c.before.before.before.before.before.before.before.before.before.before
+
+abbrev at-else-refused : tie.After-slice_known-3-1 → tie.Else-refused
+at-else-refused c = c.before.before.before.before.before.before.before.before.before
+
+-- The way back from a place in the code to the one that the name says.
 abbrev at-work : tie.After-refused → tie.After-file_in-done
 at-work c = c.before.before.before.before
 
@@ -87,7 +94,7 @@ same-length-4 c = c.put_lasts.auto.lasts
 same-length-5 : tie.Need-shape_of-given
 same-length-5 c =
     let t = c in
-    let w = at-work t.before.before.before.before.before.before.before.before.before.before in
+    let w = at-work (at-refused t) in
     length-set (at-start w).args.given.now 0 w.file_in-done.result.filed.number
 
 returns-2 : tie.Need-returns
@@ -96,12 +103,12 @@ returns-2 c =
     let t = q in
     let e = t in
     let f = e in
-    let w = at-work f.before.before.before.before.before.before.before.before.before.before in
+    let w = at-work (at-refused f) in
     let p = w in
     let a = (at-start w).args in
     file_done a.tickets.now a.lasts.now a.given.now a.office a.file a.count a.files _ _ _ _ _ p.table_at-row.ensures
     p.lasts_in-numbers.ensures p.places_if-fit.ensures p.places_if-len.ensures w.file_in-done.ensures _ f.refused.ensures e.if-refused.false
-    _ f.code_of-code.ensures _ t.put_table.ensures _ q.put_lasts.ensures _ (one_set _ a.given.now (fits e.before.before.before.before.before.before.before.before.before).one)
+    _ f.code_of-code.ensures _ t.put_table.ensures _ q.put_lasts.ensures _ (one_set _ a.given.now (fits (at-else-refused e)).one)
 
 pub violstream_file_spec : {M : Type 1} → statement M
 violstream_file_spec =

@@ -10,6 +10,10 @@ use Rattle.desk_waits.proofs.put_waiting.Statement.{statement}
 use Rattle.desk_waits.proofs.put_waiting.Tie as tie
 
 -- The way back from a place in the code to the one that the name says.
+abbrev at-put_waits-last_at : tie.After-slice_known-4-1 → tie.After-put_waits-last_at
+at-put_waits-last_at c = c.before.before.before.before.before.before.before.before
+
+-- The way back from a place in the code to the one that the name says.
 abbrev at-start : tie.After-put_waits-twos_at → tie.Start
 at-start c = c.before.before.before
 
@@ -43,7 +47,7 @@ returns : tie.Need-returns
 returns c =
     let l = c in
     let q = l in
-    let p = at_ones q.before.before.before.before.before.before.before.before in
+    let p = at_ones (at-put_waits-last_at q) in
     let s = at-start p in
     text_wrote s.args.row (long s) s.args.ones s.args.twos s.requires.0 _ _ _ _ _ _ _ s.requires.1 p.put_waits-twos_at.ensures q.put_waits-last_at.ensures l.put_pair_line.ensures
 

@@ -8,6 +8,10 @@ use Rattle.desk_waits.proofs.tell_waiting.Statement.{statement}
 use Rattle.desk_waits.proofs.tell_waiting.Tie as tie
 
 -- The way back from a place in the code to the one that the name says.
+abbrev at-judge_row-verdict : tie.After-slice_known-2-1 → tie.After-judge_row-verdict
+at-judge_row-verdict c = c.before.before.before.before.before.before.before.before
+
+-- The way back from a place in the code to the one that the name says.
 abbrev at-start : tie.After-judge_row-verdict → tie.Start
 at-start c = c.before.before
 
@@ -56,7 +60,7 @@ returns-2 c =
     let e = w in
     let f = e in
     let j = f in
-    let a = (at-start j.before.before.before.before.before.before.before.before).args in
+    let a = (at-start (at-judge_row-verdict j)).args in
     told a.len a.row a.out.now _ j.judge_row-verdict.ensures _ f.refused.ensures e.if-refused.false _ _ w.say_waiting.ensures
 
 pub tell_waiting_spec : {M : Type 1} → statement M

@@ -45,6 +45,10 @@ invariant-loop starts lengths aggregates numbers counts stops firsts₀ lefts₀
 abbrev decreases-loop : tie.decreases-loop-i
 decreases-loop starts lengths aggregates numbers counts stops firsts₀ lefts₀ spans₀ reads₀ at₀ i₀ firsts lefts spans reads at i = i
 
+-- The way back from a place in the code to the one that the name says.
+abbrev at-loop-i : tie.After-carried invariant-loop decreases-loop → tie.At-loop-i invariant-loop decreases-loop
+at-loop-i c = c.before.before.before.before.before.before.before.before
+
 -- What was handed in, and what an accepted run says of it.
 abbrev run : tie.Start invariant-loop decreases-loop → Run
 run s = let a = s.args in run_of a.starts.now a.lengths.now a.aggregates.now a.numbers.now a.counts.now s.requires.0.head s.requires.0.turn
@@ -156,7 +160,7 @@ add_reads : tie.Need-overflow_add-reads invariant-loop decreases-loop
 add_reads c =
     let u = c in
     let n = u in
-    let s = begin n.before.before.before.before.before.before.before.before in
+    let s = begin (at-loop-i n) in
     reads-few _ _
     (reads_small _ _ _ _ _ (good s).even _ s.requires.0.all _ _ _ _ _ _ _ _ _ _ n.loop-i.invariant _ (one_less n.before.before.before.before.before.before.before) _ n.joins_next-same.ensures _ u.less_unless-at.ensures _ c.carried.ensures)
     (good s).reads
@@ -177,7 +181,7 @@ loop-again : tie.Need-loop-i-preserved invariant-loop decreases-loop
 loop-again c =
     let u = c in
     let n = u in
-    let s = begin n.before.before.before.before.before.before.before.before in
+    let s = begin (at-loop-i n) in
     filling_more _ _ _ _ _ (good s).even _ s.requires.0.all _ _ _ _ _ _ _ _ _ _ n.loop-i.invariant _ (one_less n.before.before.before.before.before.before.before) _ n.joins_next-same.ensures _
     u.less_unless-at.ensures _ c.carried.ensures
     s.requires.1.0 s.requires.1.1.0 s.requires.1.1.1.0 s.requires.1.1.1.1 _ u.stop_place-place.ensures

@@ -13,6 +13,13 @@ use borrow.Author.Rules.{rules}
 use Rattle.engine_stops.proofs.join.Statement.{statement}
 use Rattle.engine_stops.proofs.join.Tie as tie
 
+-- The way back from a place in the code to the one that the name says.
+abbrev at-else-refused : tie.After-fill-arg-4-1 → tie.Else-refused
+at-else-refused c = c.before.before.before.before.before.before.before.before.before
+
+abbrev at-count_stops-stops : tie.After-fill-arg-4-1 → tie.After-count_stops-stops
+at-count_stops-stops c = c.before.before.before.before.before.before.before.before
+
 -- The run and the rows that were handed in.
 abbrev run : tie.Start → Run
 run s = let a = s.args in run_of a.starts.now a.lengths.now a.aggregates.now a.numbers.now a.counts.now a.head a.turn
@@ -82,11 +89,11 @@ fill-requires c κs =
     let t = d in
     let n = t in
     let e = n in
-    let a = (start e.before.before.before.before.before.before.before.before.before).args in
-    let long = rows_long (run (start e.before.before.before.before.before.before.before.before.before)) (rows (start e.before.before.before.before.before.before.before.before.before)) _ _ e.judge-run.ensures e.refused.ensures
-    _ (all-counted n.before.before.before.before.before.before.before.before) _ t.short_rows.ensures _ _ t.refuse_if-rows.ensures d.refused-2.ensures d.if-refused-2.false
+    let a = (start (at-else-refused e)).args in
+    let long = rows_long (run (start (at-else-refused e))) (rows (start (at-else-refused e))) _ _ e.judge-run.ensures e.refused.ensures
+    _ (all-counted (at-count_stops-stops n)) _ t.short_rows.ensures _ _ t.refuse_if-rows.ensures d.refused-2.ensures d.if-refused-2.false
     in (
-      record { head = a.head; turn = a.turn; accepts = passed e.before.before.before.before.before.before.before.before.before; all = all-counted n.before.before.before.before.before.before.before.before },
+      record { head = a.head; turn = a.turn; accepts = passed (at-else-refused e); all = all-counted (at-count_stops-stops n) },
       (long.firsts, (long.lefts, (long.spans, long.reads))),
     )
 
@@ -109,10 +116,10 @@ returns-3 c =
     let t = d in
     let n = t in
     let e = n in
-    let s = start e.before.before.before.before.before.before.before.before.before.before in
+    let s = start (at-else-refused e.before) in
     let filled = z.fill.ensures in
     let so = rows_accepted (run s) (rows s) _ _ e.judge-run.ensures e.refused.ensures
-    _ (all-counted n.before.before.before.before.before.before.before.before.before) _ t.short_rows.ensures _ _ t.refuse_if-rows.ensures d.refused-2.ensures e.if-refused.false d.if-refused-2.false
+    _ (all-counted (at-count_stops-stops n.before)) _ t.short_rows.ensures _ _ t.refuse_if-rows.ensures d.refused-2.ensures e.if-refused.false d.if-refused-2.false
     _ (four_rows_lem filled.0 filled.1.0 filled.1.1.0 filled.1.1.1)
     in
     (so.says, so.rows)

@@ -14,6 +14,13 @@ use Rattle.planner.proofs.list_named.Statement.{statement}
 use Rattle.planner.proofs.list_named.Tie as tie
 use Rattle.engine_stops.specs.Private.{count_up}
 
+-- The way back from a place in the code to the one that the name says.
+abbrev at-refused : tie.After-slice_known-8-1 → tie.After-refused
+at-refused c = c.before.before.before.before.before.before.before.before.before
+
+abbrev at-else-refused : tie.After-slice_known-8-1 → tie.Else-refused
+at-else-refused c = c.before.before.before.before.before.before.before.before
+
 -- A part of at most 64 entries lies in a row of 64.
 part_in : (k n m : ℕ) → k ≤ 64 → n ≡ m → m ≡ 64 → k ≤ n
 part_in k n m h e f = omega arith
@@ -97,17 +104,17 @@ name-files-requires-2 c κs =
 same-length-4 : tie.Need-shape_of-froms
 same-length-4 c =
     let froms = c in
-    froms.name_files.auto.row ∙ (engine froms.before.before.before.before.before.before.before.before.before).list-list.auto.froms
+    froms.name_files.auto.row ∙ (engine (at-refused froms)).list-list.auto.froms
 
 same-length-5 : tie.Need-shape_of-tos
 same-length-5 c =
     let froms = c in
-    c.name_files-2.auto.row ∙ (engine froms.before.before.before.before.before.before.before.before.before).list-list.auto.tos
+    c.name_files-2.auto.row ∙ (engine (at-refused froms)).list-list.auto.tos
 
 same-length-6 : tie.Need-shape_of-room
 same-length-6 c =
     let froms = c in
-    (engine froms.before.before.before.before.before.before.before.before.before).list-list.auto.room
+    (engine (at-refused froms)).list-list.auto.room
 
 returns-2 : tie.Need-returns
 returns-2 c =
@@ -115,7 +122,7 @@ returns-2 c =
     let froms = tos in
     let e = froms in
     let f = e in
-    λ r h. named_listed r _ _ _ _ _ _ h (before f.before.before.before.before.before.before.before.before.before) (mid f.before.before.before.before.before.before.before.before.before) _ _ (counted f.before.before.before.before.before.before.before.before.before) (engine f.before.before.before.before.before.before.before.before.before).list-list.ensures (passes e.before.before.before.before.before.before.before.before) _ _ froms.name_files.ensures tos.name_files-2.ensures
+    λ r h. named_listed r _ _ _ _ _ _ h (before (at-refused f)) (mid (at-refused f)) _ _ (counted (at-refused f)) (engine (at-refused f)).list-list.ensures (passes (at-else-refused e)) _ _ froms.name_files.ensures tos.name_files-2.ensures
 
 pub list_named_spec : {M : Type 1} → statement M
 list_named_spec =

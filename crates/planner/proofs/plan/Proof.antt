@@ -24,6 +24,9 @@ start j = j.before.before.before.before.before.before.before.before.before.befor
 abbrev at-plan : tie.After-slice_known-10-1 → tie.After-plan_any
 at-plan c = c.before.before.before.before.before.before.before.before.before.before
 
+abbrev at-judge-run : tie.After-plan_any → tie.After-judge-run
+at-judge-run c = c.before.before.before.before.before.before.before.before
+
 abbrev run : tie.Start → Run
 run s = let a = s.args in run_of a.starts.now a.lengths.now a.aggregates.now a.numbers.now a.counts.now a.head a.turn
 
@@ -58,7 +61,7 @@ returns-2 c =
     let p = at-plan c in
     let e = p in
     let j = e in
-    plan_same (run (start j.before.before.before.before.before.before.before.before)) (rows (start j.before.before.before.before.before.before.before.before)) (test_says j.judge-run.ensures e.refused.ensures e.if-refused.false) _ _ p.plan_any.ensures
+    plan_same (run (start (at-judge-run j))) (rows (start (at-judge-run j))) (test_says j.judge-run.ensures e.refused.ensures e.if-refused.false) _ _ p.plan_any.ensures
 
 pub plan_spec : {M : Type 1} → statement M
 plan_spec =

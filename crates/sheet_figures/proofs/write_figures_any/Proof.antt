@@ -14,6 +14,13 @@ use borrow.Author.Rules.{rules}
 use Rattle.sheet_figures.proofs.write_figures_any.Statement.{statement}
 use Rattle.sheet_figures.proofs.write_figures_any.Tie as tie
 
+-- The way back from a place in the code to the one that the name says.
+abbrev at-judge_any-run : tie.After-answer_to-then-refused-2 → tie.After-judge_any-run
+at-judge_any-run c = c.before.before.before.before.before.before.before.before.before
+
+abbrev at-else-refused-2 : tie.After-slice_known-2-1 → tie.Else-refused-2
+at-else-refused-2 c = c.before.before.before.before.before.before.before.before.before
+
 -- What was handed in.
 abbrev begun : tie.After-judge_any-run → tie.Start
 begun c = c.before.before.before.before.before.before.before.before.before.before
@@ -60,7 +67,7 @@ returns-2 c =
     let f = c in
     let e = f in
     let name = e in
-    let s = begun name.before.before.before.before.before.before.before.before.before in
+    let s = begun (at-judge_any-run name) in
     refused_handed _ _ _ _ _ _
     (figures_list_refused s.args.name.now (run s) s.args.froms.now s.args.tos.now s.args.out.now _ _ name.judge_any-run.ensures name.judge_name-named.ensures _
     e.refused.ensures e.if-refused.false (replicate 64 (pos 0)) (omega arith) f.figures_any-answer.result f.figures_any-answer.ensures.0 _ c.refused-2.ensures c.if-refused-2.true)
@@ -127,7 +134,7 @@ same_length c = c.hand_out.auto.out
 returns-3 : tie.Need-returns
 returns-3 c =
     let sheet = c in
-    let e = sheet.before.before.before.before.before.before.before.before.before in
+    let e = at-else-refused-2 sheet in
     let s = start e in
     let name = (passed e).before.before in
     let wrote = figures_wrote s.args.name.now (run s) s.args.froms.now s.args.tos.now s.args.out.now _ _ name.judge_any-run.ensures name.judge_name-named.ensures _

@@ -4,6 +4,10 @@ use borrow.Author.Rules.{rules}
 use Rattle.sheet_lists.proofs.read_as.Statement.{statement}
 use Rattle.sheet_lists.proofs.read_as.Tie as tie
 
+-- The way back from a place in the code to the one that the name says.
+abbrev at-in-Good : tie.After-refuse_if-in-Good → tie.In-Good
+at-in-Good c = c.before.before.before.before.before.before.before.before.before.before.before.before
+
 -- What was handed in, where the form is good.
 abbrev start : tie.In-Good → tie.Start
 start f = f.before.before.before.before
@@ -59,7 +63,7 @@ returns-4 c =
     let fp = c in
     let e = fp in
     let f = e in
-    let s = start f.before.before.before.before.before.before.before.before.before.before.before.before in
+    let s = start (at-in-Good f) in
     let a = s.args in
     read_whole a.list.now a.form a.froms.now a.tos.now s.requires _ _ f.in-Good.is e.if-froms-detours.false e.if-tos-detours.false _ c.refuse_if-in-Good.ensures _ _ fp.fill_pairs.ensures
 

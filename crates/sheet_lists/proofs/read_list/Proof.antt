@@ -7,6 +7,10 @@ use borrow.Author.Rules.{rules}
 use Rattle.sheet_lists.proofs.read_list.Statement.{statement}
 use Rattle.sheet_lists.proofs.read_list.Tie as tie
 
+-- The way back from a place in the code to the one that the name says.
+abbrev at-refuse_if-long : tie.After-slice_known-4-1 → tie.After-refuse_if-long
+at-refuse_if-long c = c.before.before.before.before.before.before.before.before.before.before
+
 refuse-if-requires : tie.Need-refuse_if-long-requires
 refuse-if-requires c κs = search rules
 
@@ -47,7 +51,7 @@ returns-2 c =
     let ra = c in
     let jl = ra in
     let ri = jl in
-    let s = at-start ri.before.before.before.before.before.before.before.before.before.before in
+    let s = at-start (at-refuse_if-long ri) in
     read_formed (list_bad_line s.args.list.now) (list_detours s.args.list.now) (list_text s.args.list.now) s.args.list.now s.args.froms.now
     s.args.tos.now _ ri.refuse_if-long.ensures _ jl.refused.ensures jl.if-refused.false jl.judge_list.result jl.judge_list.ensures _ _ _
     ra.read_as.ensures

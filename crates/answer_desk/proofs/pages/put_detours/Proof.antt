@@ -19,6 +19,10 @@ invariant-loop page₀ at n froms tos next₀ i₀ page next i =
 abbrev decreases-loop : tie.decreases-loop-i
 decreases-loop page₀ at n froms tos next₀ i₀ page next i = n - i
 
+-- The way back from a place in the code to the one that the name says.
+abbrev at-start : tie.After-slice_known-in-loop-i-1 invariant-loop decreases-loop → tie.Start invariant-loop decreases-loop
+at-start c = c.before.before.before.before.before.before.before.before.before
+
 long-froms : (s : tie.Start invariant-loop decreases-loop) → length s.args.froms ≡ 8
 long-froms s = search rules
 
@@ -55,7 +59,7 @@ loop-again c =
     let il = ppl in
     let s = il in
     line_put _ _ _ _ _ s.requires.1 _ _ _ _ il.loop-i.invariant (search rules) _ _
-    (detours_left s.args.n s.args.froms s.args.tos s.requires.0 (long-froms s.before.before.before.before.before.before.before.before.before) (long-tos s.before.before.before.before.before.before.before.before.before) il.loop-i.i il.loop-i-test.true) _ (omega arith) _ _
+    (detours_left s.args.n s.args.froms s.args.tos s.requires.0 (long-froms (at-start s)) (long-tos (at-start s)) il.loop-i.i il.loop-i-test.true) _ (omega arith) _ _
     ppl.put_pair_line-next.ensures
 
 same_length : tie.Need-shape_of-page invariant-loop decreases-loop

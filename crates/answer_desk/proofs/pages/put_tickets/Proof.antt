@@ -17,6 +17,10 @@ invariant-loop page₀ at first n reads row next₀ i₀ page next i = LinesPut 
 abbrev decreases-loop : tie.decreases-loop-i
 decreases-loop page₀ at first n reads row next₀ i₀ page next i = n - i
 
+-- The way back from a place in the code to the one that the name says.
+abbrev at-start : tie.After-slice_known-in-loop-i-1 invariant-loop decreases-loop → tie.Start invariant-loop decreases-loop
+at-start c = c.before.before.before.before.before.before.before.before
+
 long : (s : tie.Start invariant-loop decreases-loop) → length s.args.row ≡ 32
 long s = search rules
 
@@ -49,7 +53,7 @@ loop-again c =
     let il = pc in
     let s = il in
     line_wrote _ _ _ _ _ s.requires.1 _ _ _ _ il.loop-i.invariant il.loop-i-test.true _ _
-    (tickets_left s.args.reads s.args.row (long s.before.before.before.before.before.before.before.before) s.args.first s.args.n s.requires.0 il.loop-i.i il.loop-i-test.true) _ (omega arith) _ _
+    (tickets_left s.args.reads s.args.row (long (at-start s)) s.args.first s.args.n s.requires.0 il.loop-i.i il.loop-i-test.true) _ (omega arith) _ _
     pc.put_closed-next.ensures
 
 same_length : tie.Need-shape_of-page invariant-loop decreases-loop

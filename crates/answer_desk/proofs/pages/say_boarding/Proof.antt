@@ -9,6 +9,10 @@ use borrow.Author.Rules.{rules}
 use Rattle.answer_desk.proofs.pages.say_boarding.Statement.{statement}
 use Rattle.answer_desk.proofs.pages.say_boarding.Tie as tie
 
+-- The way back from a place in the code to the one that the name says.
+abbrev at-start : tie.After-slice_known-2-1 → tie.Start
+at-start c = c.before.before.before.before.before.before.before.before.before
+
 long-froms : (s : tie.Start) → length s.args.froms ≡ 8
 long-froms s = search rules
 
@@ -39,7 +43,7 @@ returns c =
     let pb = ho in
     let s = pb in
     let a = s.args in
-    let w = boarded_wrote a.row a.boarded a.froms a.tos a.reads (long-froms s.before.before.before.before.before.before.before.before.before) (long-tos s.before.before.before.before.before.before.before.before.before) s.requires _ _ _ pb.put_boarding-bytes.ensures in
+    let w = boarded_wrote a.row a.boarded a.froms a.tos a.reads (long-froms (at-start s)) (long-tos (at-start s)) s.requires _ _ _ pb.put_boarding-bytes.ensures in
     record { few = omega (arith, w.after, w.within); handed = page_handed _ _ _ _ _ w _ _ refl _ _ ho.hand_out.ensures }
 
 pub say_boarding_spec : {M : Type 1} → statement M

@@ -7,6 +7,10 @@ use Rattle.sheet_writer.proofs.Sheets.{part_length}
 use Rattle.answer_ltfs.proofs.input.answer.Statement.{statement}
 use Rattle.answer_ltfs.proofs.input.answer.Tie as tie
 
+-- The way back from a place in the code to the one that the name says.
+abbrev at-list-2-1 : tie.After-slice_known-4-1 → tie.After-list-2-1
+at-list-2-1 c = c.before.before.before.before.before.before.before.before.before
+
 -- Where the sheet was drafted, and where it was not refused.
 abbrev told : tie.After-refused → tie.After-draft-report
 told c = c.before.before
@@ -66,7 +70,7 @@ returns-2 : tie.Need-returns
 returns-2 c =
     let h = c in
     let l = h in
-    let p = passed l.before.before.before.before.before.before.before.before.before in
+    let p = passed (at-list-2-1 l) in
     answer_handed _ _ _ _ (told p.before).draft-report.ensures _ p.refused.ensures p.if-refused.false _ _ _ _ _ l.put_left_out-noted.ensures _ _ _ h.hand_both.ensures
 
 pub answer_spec : {M : Type 1} → statement M

@@ -7,6 +7,10 @@ use borrow.Author.Rules.{rules}
 use Rattle.answer_ltfs.proofs.sheet.lay_out.Statement.{statement}
 use Rattle.answer_ltfs.proofs.sheet.lay_out.Tie as tie
 
+-- The way back from a place in the code to the one that the name says.
+abbrev at-refused : tie.After-report_of → tie.After-refused
+at-refused c = c.before.before.before.before.before.before.before.before.before.before.before
+
 -- Where the files were judged, and where they were counted.
 abbrev judged : tie.After-refused → tie.After-judge_files-verdict
 judged c = c.before
@@ -100,7 +104,7 @@ returns-2 c =
     let c3 = c in
     let c7 = c3 in
     let c10 = c7 in
-    let c12 = judged c10.before.before.before.before.before.before.before.before.before.before.before in
+    let c12 = judged (at-refused c10) in
     let c17 = gathered c12 in
     let c23 = c17 in
     let p = laid_passed c23.args.name.now c23.args.size c23.args.partition _ c23.args.out.now c17.gather-tally.result _ _ c17.gather-tally.ensures _ c12.judge_files-verdict.ensures

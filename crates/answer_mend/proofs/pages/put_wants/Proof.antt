@@ -19,6 +19,10 @@ invariant-loop page₀ at row wanted counts next₀ i₀ page next i =
 abbrev decreases-loop : tie.decreases-loop-i
 decreases-loop page₀ at row wanted counts next₀ i₀ page next i = length row - i
 
+-- The way back from a place in the code to the one that the name says.
+abbrev at-loop-i : tie.After-slice_known-in-loop-i-1 invariant-loop decreases-loop → tie.At-loop-i invariant-loop decreases-loop
+at-loop-i c = c.before.before.before.before.before.before.before.before.before.before
+
 loop-holds : tie.Need-loop-i-init invariant-loop decreases-loop
 loop-holds c = lines_put_none _ _ _ _ _
 
@@ -55,7 +59,7 @@ loop-again c =
     let ppl = c in
     let ro = ppl in
     let al = ro in
-    want_put _ _ _ _ _ (at-start al.before.before.before.before.before.before.before.before.before.before).requires.1 _ _ _ al.loop-i.invariant ro.loop-i-test.true _ ro.reads_of-reads.ensures _ _ ppl.put_pair_line-next.ensures
+    want_put _ _ _ _ _ (at-start (at-loop-i al)).requires.1 _ _ _ al.loop-i.invariant ro.loop-i-test.true _ ro.reads_of-reads.ensures _ _ ppl.put_pair_line-next.ensures
 
 same_length : tie.Need-shape_of-page invariant-loop decreases-loop
 same_length c = c.loop-i.invariant.long

@@ -8,6 +8,28 @@ use borrow.Author.Rules.{rules}
 use Rattle.answer_month.proofs.page.write_month.Statement.{statement}
 use Rattle.answer_month.proofs.page.write_month.Tie as tie
 
+-- The way back from a place in the code to the one that the name says.
+abbrev at-tape-2-1 : tie.After-page-5-1 → tie.After-tape-2-1
+at-tape-2-1 c = c.before.before.before.before.before.before.before.before.before
+
+abbrev at-runs-2-1 : tie.After-page-7-1 → tie.After-runs-2-1
+at-runs-2-1 c = c.before.before.before.before.before.before.before.before.before
+
+abbrev at-page-1 : tie.After-page-7-1 → tie.After-page-1
+at-page-1 c = c.before.before.before.before.before.before.before.before.before.before
+
+abbrev at-runs-2-1-from-put-arg-1 : tie.After-put-arg-1 → tie.After-runs-2-1
+at-runs-2-1-from-put-arg-1 c = c.before.before.before.before.before.before.before.before.before.before.before.before
+
+abbrev at-page-1-from-put-arg-1 : tie.After-put-arg-1 → tie.After-page-1
+at-page-1-from-put-arg-1 c = c.before.before.before.before.before.before.before.before.before.before.before.before.before
+
+abbrev at-runs-2-1-from-slice_known-2-1 : tie.After-slice_known-2-1 → tie.After-runs-2-1
+at-runs-2-1-from-slice_known-2-1 c = c.before.before.before.before.before.before.before.before.before.before.before.before.before.before.before.before
+
+abbrev at-page-1-from-slice_known-2-1 : tie.After-slice_known-2-1 → tie.After-page-1
+at-page-1-from-slice_known-2-1 c = c.before.before.before.before.before.before.before.before.before.before.before.before.before.before.before.before.before
+
 slice-aggregate-tape-of : tie.Need-slice_bounds-tape_of-end
 slice-aggregate-tape-of c = search rules
 
@@ -44,7 +66,7 @@ put-longest-requires c κs =
     let at-tape-of = page-lent in
     let tape-lent = at-tape-of in
     let start = tape-lent in
-    (room_three start.args.month start.args.verdict (sym (slice-aggregate-put-top-2 runs-lent.before.before.before.before.before.before)) _ (sym (slice-aggregate-put-top page-lent.before.before.before.before.before.before.before)) _ _ at-put-top.put_top-sums.ensures _ _ c.put_sums-longest.ensures, short_tape start.args.month.tape _ start.args.month.letters at-tape-of.tape_of-name.ensures (slice-aggregate-tape-of tape-lent.before.before.before.before.before.before.before.before.before))
+    (room_three start.args.month start.args.verdict (sym (slice-aggregate-put-top-2 runs-lent.before.before.before.before.before.before)) _ (sym (slice-aggregate-put-top page-lent.before.before.before.before.before.before.before)) _ _ at-put-top.put_top-sums.ensures _ _ c.put_sums-longest.ensures, short_tape start.args.month.tape _ start.args.month.letters at-tape-of.tape_of-name.ensures (slice-aggregate-tape-of (at-tape-2-1 tape-lent)))
 
 slice-aggregate-put-end : tie.Need-slice_bounds-put_end-end
 slice-aggregate-put-end c = search rules
@@ -57,7 +79,7 @@ put-end-requires c κs =
     let page-lent = runs-lent in
     let at-tape-of = page-lent in
     let start = at-tape-of in
-    room_four start.args.month start.args.verdict (sym (slice-aggregate-put-top-2 runs-lent.before.before.before.before.before.before.before.before.before)) _ (sym (slice-aggregate-put-top page-lent.before.before.before.before.before.before.before.before.before.before)) _ _ at-put-top.put_top-sums.ensures _ _ at-put-sums.put_sums-longest.ensures _ at-tape-of.tape_of-name.ensures _ _ c.put_longest-saved.ensures
+    room_four start.args.month start.args.verdict (sym (slice-aggregate-put-top-2 (at-runs-2-1 runs-lent))) _ (sym (slice-aggregate-put-top (at-page-1 page-lent))) _ _ at-put-top.put_top-sums.ensures _ _ at-put-sums.put_sums-longest.ensures _ at-tape-of.tape_of-name.ensures _ _ c.put_longest-saved.ensures
 
 array-share-prefix-page : tie.Need-slice_bounds-page-end
 array-share-prefix-page c =
@@ -68,7 +90,7 @@ array-share-prefix-page c =
     let page-lent = runs-lent in
     let at-tape-of = page-lent in
     let start = at-tape-of in
-    omega (arith, page_within start.args.month start.args.verdict (sym (slice-aggregate-put-top-2 runs-lent.before.before.before.before.before.before.before.before.before.before.before.before)) _ (sym (slice-aggregate-put-top page-lent.before.before.before.before.before.before.before.before.before.before.before.before.before)) _ _ at-put-top.put_top-sums.ensures _ _ at-put-sums.put_sums-longest.ensures _ at-tape-of.tape_of-name.ensures _ _ at-put-longest.put_longest-saved.ensures _ _ c.put_end-bytes.ensures, page_kept start.args.month start.args.verdict (sym (slice-aggregate-put-top-2 runs-lent.before.before.before.before.before.before.before.before.before.before.before.before)) _ (sym (slice-aggregate-put-top page-lent.before.before.before.before.before.before.before.before.before.before.before.before.before)) _ _ at-put-top.put_top-sums.ensures _ _ at-put-sums.put_sums-longest.ensures _ at-tape-of.tape_of-name.ensures _ _ at-put-longest.put_longest-saved.ensures _ _ c.put_end-bytes.ensures)
+    omega (arith, page_within start.args.month start.args.verdict (sym (slice-aggregate-put-top-2 (at-runs-2-1-from-put-arg-1 runs-lent))) _ (sym (slice-aggregate-put-top (at-page-1-from-put-arg-1 page-lent))) _ _ at-put-top.put_top-sums.ensures _ _ at-put-sums.put_sums-longest.ensures _ at-tape-of.tape_of-name.ensures _ _ at-put-longest.put_longest-saved.ensures _ _ c.put_end-bytes.ensures, page_kept start.args.month start.args.verdict (sym (slice-aggregate-put-top-2 (at-runs-2-1-from-put-arg-1 runs-lent))) _ (sym (slice-aggregate-put-top (at-page-1-from-put-arg-1 page-lent))) _ _ at-put-top.put_top-sums.ensures _ _ at-put-sums.put_sums-longest.ensures _ at-tape-of.tape_of-name.ensures _ _ at-put-longest.put_longest-saved.ensures _ _ c.put_end-bytes.ensures)
 
 slice-aggregate-put : tie.Need-slice_bounds-put-end
 slice-aggregate-put c = sym (length-take-le _ _ (array-share-prefix-page c.before))
@@ -89,7 +111,7 @@ returns c =
     let page-lent = runs-lent in
     let at-tape-of = page-lent in
     let start = at-tape-of in
-    page_put start.args.month start.args.verdict (sym (slice-aggregate-put-top-2 runs-lent.before.before.before.before.before.before.before.before.before.before.before.before.before.before.before.before)) _ (sym (slice-aggregate-put-top page-lent.before.before.before.before.before.before.before.before.before.before.before.before.before.before.before.before.before)) _ _ at-put-top.put_top-sums.ensures _ _ at-put-sums.put_sums-longest.ensures _ at-tape-of.tape_of-name.ensures _ _ at-put-longest.put_longest-saved.ensures _ _ at-put-end.put_end-bytes.ensures _ _ _ c.put.ensures
+    page_put start.args.month start.args.verdict (sym (slice-aggregate-put-top-2 (at-runs-2-1-from-slice_known-2-1 runs-lent))) _ (sym (slice-aggregate-put-top (at-page-1-from-slice_known-2-1 page-lent))) _ _ at-put-top.put_top-sums.ensures _ _ at-put-sums.put_sums-longest.ensures _ at-tape-of.tape_of-name.ensures _ _ at-put-longest.put_longest-saved.ensures _ _ at-put-end.put_end-bytes.ensures _ _ _ c.put.ensures
 
 pub write_month_spec : {M : Type 1} → statement M
 write_month_spec =

@@ -8,6 +8,10 @@ use borrow.Author.Rules.{rules}
 use Rattle.sheet_writer.proofs.plan.put_plan.Statement.{statement}
 use Rattle.sheet_writer.proofs.plan.put_plan.Tie as tie
 
+-- The way back from a place in the code to the one that the name says.
+abbrev at-put_plan_top-detour_at : tie.After-slice_known-4-1 → tie.After-put_plan_top-detour_at
+at-put_plan_top-detour_at c = c.before.before.before.before.before.before.before.before.before.before.before.before.before.before
+
 put-plan-top-requires : tie.Need-put_plan_top-detour_at-requires
 put-plan-top-requires c κs = search rules
 
@@ -34,7 +38,7 @@ returns c =
     let pt = c in
     let c7 = pt in
     let c12 = c7 in
-    let c21 = at-start c12.before.before.before.before.before.before.before.before.before.before.before.before.before.before in
+    let c21 = at-start (at-put_plan_top-detour_at c12) in
     let two = wrote_both c12.put_plan_top-detour_at.ensures c7.put_pairs-time_at.ensures in
     wrote_within (wrote_both two pt.put_triples.ensures) _ (omega (arith, c21.requires.few, c21.requires.wants))
 

@@ -10,6 +10,10 @@ use Rattle.runs.proofs.Accepted.{counted_exact}
 use Rattle.sheet_writer.proofs.plan.write_plan_any.Statement.{statement}
 use Rattle.sheet_writer.proofs.plan.write_plan_any.Tie as tie
 
+-- The way back from a place in the code to the one that the name says.
+abbrev at-judge_any-run : tie.After-answer_to-then-refused-2 → tie.After-judge_any-run
+at-judge_any-run c = c.before.before.before.before.before.before.before.before.before.before.before
+
 judge-any-requires : tie.Need-judge_any-run-requires
 judge-any-requires c κs = search rules
 
@@ -64,7 +68,7 @@ returns-2 c =
     let price = r2 in
     let named = price in
     let j = named in
-    let a = (at-start j.before.before.before.before.before.before.before.before.before.before.before).args in
+    let a = (at-start (at-judge_any-run j)).args in
     let run = run_of a.starts.now a.lengths.now a.aggregates.now a.numbers.now a.counts.now a.head a.turn in
     refused_handed _ _ _ _ _ _ (plan_list_refused a.name.now run a.froms.now a.tos.now a.out.now _ _
     j.judge_any-run.ensures named.judge_name-named.ensures _ named.refused.ensures named.if-refused.false

@@ -9,6 +9,10 @@ use borrow.Author.Rules.{rules}
 use Rattle.sheet_writer.proofs.refusal.write_refusal.Statement.{statement}
 use Rattle.sheet_writer.proofs.refusal.write_refusal.Tie as tie
 
+-- The way back from a place in the code to the one that the name says.
+abbrev at-put_number_line-place_at : tie.After-slice_known-2-1 → tie.After-put_number_line-place_at
+at-put_number_line-place_at c = c.before.before.before.before.before.before.before.before.before
+
 number-requires : tie.Need-number-number-requires
 number-requires c κs = search rules
 
@@ -49,7 +53,7 @@ returns : tie.Need-returns
 returns c =
     let p = c in
     let k = p in
-    page_handed _ _ _ _ _ (wrote_refusal (told k.before.before.before.before.before.before.before.before.before) _ k.number-number.ensures _ (omega arith) _ _ _ _ k.put_number_line-place_at.ensures p.put_place-bytes.ensures) _ _ refl _ _ c.hand_out.ensures
+    page_handed _ _ _ _ _ (wrote_refusal (told (at-put_number_line-place_at k)) _ k.number-number.ensures _ (omega arith) _ _ _ _ k.put_number_line-place_at.ensures p.put_place-bytes.ensures) _ _ refl _ _ c.hand_out.ensures
 
 pub write_refusal_spec : {M : Type 1} → statement M
 write_refusal_spec =

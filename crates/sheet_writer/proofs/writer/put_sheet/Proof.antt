@@ -8,6 +8,10 @@ use borrow.Author.Rules.{rules}
 use Rattle.sheet_writer.proofs.writer.put_sheet.Statement.{statement}
 use Rattle.sheet_writer.proofs.writer.put_sheet.Tie as tie
 
+-- The way back from a place in the code to the one that the name says.
+abbrev at-put_top-file_at : tie.After-put_pairs-arg-3-1 → tie.After-put_top-file_at
+at-put_top-file_at c = c.before.before.before.before.before.before.before.before.before.before.before.before.before.before.before.before.before
+
 put-top-requires : tie.Need-put_top-file_at-requires
 put-top-requires c κs = search rules
 
@@ -26,7 +30,7 @@ put-pairs-requires c κs =
     let wants = c in
     let files = wants in
     let top = files in
-    let z = (at-start top.before.before.before.before.before.before.before.before.before.before.before.before.before.before.before.before.before).requires in
+    let z = (at-start (at-put_top-file_at top)).requires in
     let w = wrote_on (wrote_both top.put_top-file_at.ensures files.put_triples-wants_at.ensures) (omega arith) wants.put_number_line-want_at.ensures in
     let long = wrote_long w (omega arith) in
     (omega arith, (z.pairs, omega (arith, w.within, long)))

@@ -19,6 +19,34 @@ use Rattle.walk.proofs.Priced.{Parts, anyParts, price_any_answers, run_refused, 
 use Rattle.walk.proofs.any_head.price_any.Statement.{statement}
 use Rattle.walk.proofs.any_head.price_any.Tie as tie
 
+-- The way back from a place in the code to the one that the name says.
+abbrev at-else-refused : tie.After-refuse-then-refused-3 → tie.Else-refused
+at-else-refused c = c.before.before.before.before.before.before.before.before
+
+abbrev at-judge-run : tie.After-refuse-then-refused-3 → tie.After-judge-run
+at-judge-run c = c.before.before.before.before.before.before.before.before.before.before
+
+abbrev at-else-refused-from-priced-arg-2-1 : tie.After-priced-arg-2-1 → tie.Else-refused
+at-else-refused-from-priced-arg-2-1 c = c.before.before.before.before.before.before.before.before.before
+
+abbrev at-judge-run-from-priced-arg-2-1 : tie.After-priced-arg-2-1 → tie.After-judge-run
+at-judge-run-from-priced-arg-2-1 c = c.before.before.before.before.before.before.before.before.before.before.before
+
+abbrev at-judge_list_any-list : tie.After-priced-arg-2-1 → tie.After-judge_list_any-list
+at-judge_list_any-list c = c.before.before.before.before.before.before.before.before
+
+abbrev at-else-refused-from-slice_known-4-1 : tie.After-slice_known-4-1 → tie.Else-refused
+at-else-refused-from-slice_known-4-1 c = c.before.before.before.before.before.before.before.before.before.before.before.before.before.before
+
+abbrev at-judge-run-from-slice_known-4-1 : tie.After-slice_known-4-1 → tie.After-judge-run
+at-judge-run-from-slice_known-4-1 c = c.before.before.before.before.before.before.before.before.before.before.before.before.before.before.before.before
+
+abbrev at-judge_list_any-list-from-slice_known-4-1 : tie.After-slice_known-4-1 → tie.After-judge_list_any-list
+at-judge_list_any-list-from-slice_known-4-1 c = c.before.before.before.before.before.before.before.before.before.before.before.before.before
+
+abbrev at-refuse_if-rows : tie.After-slice_known-4-1 → tie.After-refuse_if-rows
+at-refuse_if-rows c = c.before.before.before.before.before.before.before.before.before
+
 -- The run and the rows for times and legs that were handed in, and what is answered of them.
 abbrev run : tie.Start → Run
 run s = let a = s.args in run_of a.starts.now a.lengths.now a.aggregates.now a.numbers.now a.counts.now a.head a.turn
@@ -111,9 +139,9 @@ returns-3 c =
     let d = x in
     let l = d in
     let e = l in
-    let s = start e.before.before.before.before.before.before.before.before in
+    let s = start (at-else-refused e) in
     price_any_answers (run s) s.args.froms.now s.args.tos.now (lent s) _ _
-    (rows_refused_lem (parts s) _ _ (judged e.before.before.before.before.before.before.before.before.before.before) e.refused.ensures
+    (rows_refused_lem (parts s) _ _ (judged (at-judge-run e)) e.refused.ensures
     _ _ (list-is l.before.before.before.before.before.before.before) d.refused-2.ensures _ _ (rows_are x.before.before.before) c.refused-3.ensures e.if-refused.false d.if-refused-2.false c.if-refused-3.true _ c.refuse-then-refused-3.ensures)
 
 -- Past the second check the list is accepted.
@@ -131,12 +159,12 @@ priced-requires c κs =
     let d = x in
     let l = d in
     let e = l in
-    let s = start e.before.before.before.before.before.before.before.before.before in (
-      priceable (run s) (good_run e.before.before.before.before.before.before.before.before.before) s.args.froms.now s.args.tos.now
+    let s = start (at-else-refused-from-priced-arg-2-1 e) in (
+      priceable (run s) (good_run (at-else-refused-from-priced-arg-2-1 e)) s.args.froms.now s.args.tos.now
           (any_good s.args.head (stops_of (run s)) s.args.froms.now s.args.tos.now (list-accepted d.before.before.before.before.before.before))
           (any_not_past s.args.head (stops_of (run s)) s.args.froms.now s.args.tos.now (list-accepted d.before.before.before.before.before.before)),
-      rows_long (parts s) _ _ (judged e.before.before.before.before.before.before.before.before.before.before.before) e.refused.ensures
-          _ _ (list-is l.before.before.before.before.before.before.before.before) d.refused-2.ensures _ _ (rows_are x.before.before.before.before) o.refused-3.ensures o.if-refused-3.false,
+      rows_long (parts s) _ _ (judged (at-judge-run-from-priced-arg-2-1 e)) e.refused.ensures
+          _ _ (list-is (at-judge_list_any-list l)) d.refused-2.ensures _ _ (rows_are x.before.before.before.before) o.refused-3.ensures o.if-refused-3.false,
     )
 
 same_length : tie.Need-shape_of-times
@@ -153,10 +181,10 @@ returns-4 c =
     let d = x in
     let l = d in
     let e = l in
-    let s = start e.before.before.before.before.before.before.before.before.before.before.before.before.before.before in
+    let s = start (at-else-refused-from-slice_known-4-1 e) in
     price_any_answers (run s) s.args.froms.now s.args.tos.now (lent s) _ _
-    (all_accepted (parts s) _ _ (judged e.before.before.before.before.before.before.before.before.before.before.before.before.before.before.before.before) e.refused.ensures
-    _ _ (list-is l.before.before.before.before.before.before.before.before.before.before.before.before.before) d.refused-2.ensures _ _ (rows_are x.before.before.before.before.before.before.before.before.before) o.refused-3.ensures e.if-refused.false d.if-refused-2.false o.if-refused-3.false
+    (all_accepted (parts s) _ _ (judged (at-judge-run-from-slice_known-4-1 e)) e.refused.ensures
+    _ _ (list-is (at-judge_list_any-list-from-slice_known-4-1 l)) d.refused-2.ensures _ _ (rows_are (at-refuse_if-rows x)) o.refused-3.ensures e.if-refused.false d.if-refused-2.false o.if-refused-3.false
     _ _ p.priced.ensures.0 p.priced.ensures.1)
 
 pub price_any_spec : {M : Type 1} → statement M

@@ -16,6 +16,25 @@ use Rattle.walk.proofs.Priced.{Parts, priceParts, price_answers, run_refused, ru
 use Rattle.walk.proofs.pricing.price.Statement.{statement}
 use Rattle.walk.proofs.pricing.price.Tie as tie
 
+-- The way back from a place in the code to the one that the name says.
+abbrev at-else-refused : tie.After-refuse-then-refused-3 → tie.Else-refused
+at-else-refused c = c.before.before.before.before.before.before.before.before
+
+abbrev at-else-refused-from-priced-arg-2-1 : tie.After-priced-arg-2-1 → tie.Else-refused
+at-else-refused-from-priced-arg-2-1 c = c.before.before.before.before.before.before.before.before.before
+
+abbrev at-judge_list-list : tie.After-priced-arg-2-1 → tie.After-judge_list-list
+at-judge_list-list c = c.before.before.before.before.before.before.before.before
+
+abbrev at-else-refused-from-slice_known-4-1 : tie.After-slice_known-4-1 → tie.Else-refused
+at-else-refused-from-slice_known-4-1 c = c.before.before.before.before.before.before.before.before.before.before.before.before.before.before
+
+abbrev at-judge_list-list-from-slice_known-4-1 : tie.After-slice_known-4-1 → tie.After-judge_list-list
+at-judge_list-list-from-slice_known-4-1 c = c.before.before.before.before.before.before.before.before.before.before.before.before.before
+
+abbrev at-refuse_if-rows : tie.After-slice_known-4-1 → tie.After-refuse_if-rows
+at-refuse_if-rows c = c.before.before.before.before.before.before.before.before.before
+
 -- The run and the rows for times and legs that were handed in, and what is answered of them.
 abbrev run : tie.Start → Run
 run s = let a = s.args in run_of a.starts.now a.lengths.now a.aggregates.now a.numbers.now a.counts.now a.head a.turn
@@ -99,7 +118,7 @@ returns-3 c =
     let d = x in
     let l = d in
     let e = l in
-    let s = start e.before.before.before.before.before.before.before.before in
+    let s = start (at-else-refused e) in
     price_answers (run s) s.args.froms.now s.args.tos.now (lent s) _ _
     (rows_refused_lem (parts s) _ _ e.judge-run.ensures e.refused.ensures
     _ _ (list-is l.before.before.before.before.before.before.before) d.refused-2.ensures _ _ (rows_are x.before.before.before) c.refused-3.ensures e.if-refused.false d.if-refused-2.false c.if-refused-3.true _ c.refuse-then-refused-3.ensures)
@@ -120,10 +139,10 @@ priced-requires c κs =
     let d = x in
     let l = d in
     let e = l in
-    let s = start e.before.before.before.before.before.before.before.before.before in (
-      run_priceable (run s) (good_run e.before.before.before.before.before.before.before.before.before) s.args.froms.now s.args.tos.now (good-list d.before.before.before.before.before.before),
+    let s = start (at-else-refused-from-priced-arg-2-1 e) in (
+      run_priceable (run s) (good_run (at-else-refused-from-priced-arg-2-1 e)) s.args.froms.now s.args.tos.now (good-list d.before.before.before.before.before.before),
       rows_long (parts s) _ _ e.judge-run.ensures e.refused.ensures
-          _ _ (list-is l.before.before.before.before.before.before.before.before) d.refused-2.ensures _ _ (rows_are x.before.before.before.before) o.refused-3.ensures o.if-refused-3.false,
+          _ _ (list-is (at-judge_list-list l)) d.refused-2.ensures _ _ (rows_are x.before.before.before.before) o.refused-3.ensures o.if-refused-3.false,
     )
 
 same_length : tie.Need-shape_of-times
@@ -140,12 +159,12 @@ returns-4 c =
     let d = x in
     let l = d in
     let e = l in
-    let s = start e.before.before.before.before.before.before.before.before.before.before.before.before.before.before in
+    let s = start (at-else-refused-from-slice_known-4-1 e) in
     price_answers (run s) s.args.froms.now s.args.tos.now (lent s) _ _
     (all_accepted (parts s) _ _ e.judge-run.ensures e.refused.ensures
-    _ _ (list-is l.before.before.before.before.before.before.before.before.before.before.before.before.before) d.refused-2.ensures _ _ (rows_are x.before.before.before.before.before.before.before.before.before) o.refused-3.ensures e.if-refused.false d.if-refused-2.false o.if-refused-3.false
-    _ _ (p.priced.ensures.0 ∙ priced_same (run s) (good_run e.before.before.before.before.before.before.before.before.before.before.before.before.before.before) (list_of s.args.froms.now s.args.tos.now))
-    (p.priced.ensures.1 ∙ rows_same (run s) (good_run e.before.before.before.before.before.before.before.before.before.before.before.before.before.before) (list_of s.args.froms.now s.args.tos.now) (lent s)))
+    _ _ (list-is (at-judge_list-list-from-slice_known-4-1 l)) d.refused-2.ensures _ _ (rows_are (at-refuse_if-rows x)) o.refused-3.ensures e.if-refused.false d.if-refused-2.false o.if-refused-3.false
+    _ _ (p.priced.ensures.0 ∙ priced_same (run s) (good_run (at-else-refused-from-slice_known-4-1 e)) (list_of s.args.froms.now s.args.tos.now))
+    (p.priced.ensures.1 ∙ rows_same (run s) (good_run (at-else-refused-from-slice_known-4-1 e)) (list_of s.args.froms.now s.args.tos.now) (lent s)))
 
 pub price_spec : {M : Type 1} → statement M
 price_spec =

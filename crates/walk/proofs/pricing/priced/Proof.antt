@@ -11,6 +11,10 @@ use Rattle.walk.proofs.Priced.{walk_numbers}
 use Rattle.walk.proofs.pricing.priced.Statement.{statement}
 use Rattle.walk.proofs.pricing.priced.Tie as tie
 
+-- The way back from a place in the code to the one that the name says.
+abbrev at-sweep_end-reach : tie.After-walk_end-last → tie.After-sweep_end-reach
+at-sweep_end-reach c = c.before.before.before.before.before.before.before.before.before
+
 -- The run and the rows that were handed in.
 abbrev run : tie.Start → Run
 run s = let a = s.args in run_of a.starts.now a.lengths.now a.aggregates.now a.numbers.now a.counts.now a.head a.turn
@@ -69,8 +73,8 @@ returns : tie.Need-returns
 returns c =
     let f = c in
     let n = f in
-    let s = at-start n.before.before.before.before.before.before.before.before.before in
-    walk_numbers (run s) s.args.froms.now s.args.tos.now (lent s) s.requires.0 _ (swept n.before.before.before.before.before.before.before.before.before) _ f.fill_reads-sum.ensures.0
+    let s = at-start (at-sweep_end-reach n) in
+    walk_numbers (run s) s.args.froms.now s.args.tos.now (lent s) s.requires.0 _ (swept (at-sweep_end-reach n)) _ f.fill_reads-sum.ensures.0
     _ f.fill_reads-sum.ensures.1.0 _ f.fill_reads-sum.ensures.1.1 _ c.walk_end-last.ensures
 
 pub priced_spec : {M : Type 1} → statement M

@@ -31,6 +31,10 @@ invariant-loop starts lengths aggregates numbers froms tos reach head turn file 
 abbrev decreases-loop : tie.decreases-loop-i
 decreases-loop starts lengths aggregates numbers froms tos reach head turn file many start end h₀ i₀ h i = many - i
 
+-- The way back from a place in the code to the one that the name says.
+abbrev at-extent_start-start : tie.Then-reads_file invariant-loop decreases-loop → tie.After-extent_start-start invariant-loop decreases-loop
+at-extent_start-start c = c.before.before.before.before.before.before.before.before
+
 extent-start-requires : tie.Need-extent_start-start-requires invariant-loop decreases-loop
 extent-start-requires c κs = search rules
 
@@ -92,7 +96,7 @@ run-right-requires c κs =
     let la = c in
     let al = la in
     let e = c in
-    let s = at-start-from-extent-start e.before.before.before.before.before.before.before.before in
+    let s = at-start-from-extent-start (at-extent_start-start e) in
     let t = s.requires.0.fit.list.table in
     let n = next la.before.before.before in
     let x = extent s.args.starts.now s.args.lengths.now s.args.aggregates.now t.sound t.rows s.args.file s.requires.1 in
