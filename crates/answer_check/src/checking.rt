@@ -18,6 +18,8 @@ use sheet_runs::{SheetRun, entries};
 use sheet_writer::Written;
 
 // The list of a plan sheet handed in, by value.
+// Apart, so that its rows are not on the stack below the walk and the planner.
+#[inline(never)]
 fn read_plan(plan: &[u8]) -> PlannedList
     ensures { HandedIn (plan_form plan.now) (plan_froms plan.now) (plan_tos plan.now) result }
 {
@@ -34,6 +36,8 @@ fn read_plan(plan: &[u8]) -> PlannedList
 }
 
 // Whether a list is another one.
+// Apart, so that its copies of both lists are not on the stack of the verdict.
+#[inline(never)]
 fn same_list(list: PlannedList, least: PlannedList) -> bool
     ensures { result ≡ (is_text (take least.detours least.froms) (take list.detours list.froms) && is_text (take least.detours least.tos) (take list.detours list.tos)) }
 {

@@ -28,6 +28,8 @@ fn read_list(list: &[u8]) -> PlannedList
 }
 
 // A run and a list, priced with rows for as many wants as a run can have.
+// Apart, so that its rows are on the stack once, and not below the verdict.
+#[inline(never)]
 pub(crate) fn priced(run: SheetRun, list: PlannedList) -> Priced
     ensures { PricedList (run_held run) (take list.detours list.froms) (take list.detours list.tos) result }
 {

@@ -117,6 +117,8 @@ fn put_verdict(page: &mut [u8], plan: &[u8], expected: &[u8], least: bool, by: u
 }
 
 // The verdict on a list of which an entry breaks a rule.
+// Apart, so that its page is not on the stack of the other verdict.
+#[inline(never)]
 pub(crate) fn unformed_page(entry: u64) -> VerdictPage
     ensures { PageIs (number_line formed_no entry) result }
 {
@@ -129,6 +131,8 @@ pub(crate) fn unformed_page(entry: u64) -> VerdictPage
 }
 
 // The verdict on a well-formed list.
+// Apart, so that its page is not on the stack below the planner and the plan sheet.
+#[inline(never)]
 pub(crate) fn verdict_page(plan: &[u8], expected: &[u8], least: bool, by: u64) -> VerdictPage
     requires plan_len_bound { length plan.now ≤ 16384 }
     requires expected_len_bound { length expected.now ≤ 7644 }

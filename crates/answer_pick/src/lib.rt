@@ -81,6 +81,8 @@ fn told(picks: Picks) -> Picked
 }
 
 // The lines of a list judged by what was found for them, then both texts.
+// Apart, so that the rows of the sheet's writer are not on the stack below the index's reader.
+#[inline(never)]
 fn pick_lines(
     name: &[u8],
     list: &[u8],
