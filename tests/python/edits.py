@@ -102,6 +102,10 @@ def proof_of(crate, function):
     """Where the proof of a function stands below the crate's proofs/, or its name, where rt proves it without a file."""
     module, name = function
     top = f"crates/{crate}/proofs/" + ("" if module == "lib" else module + "/")
+    source = f"crates/{crate}/src/{module}.rt"
+    cycle = re.search(rf"#\[cycle\((\w+)\)\]\s*(?:#\[[^\]]*\]\s*)*(?:pub(?:\(\w+\))? )?fn {name}\b", open(source, encoding="utf-8").read() if os.path.isfile(source) else "")
+    if cycle and any(os.path.isfile(f"{top}+{cycle[1]}/{file}") for file in PROOFS):
+        return f"{top}+{cycle[1]}/"[len(f"crates/{crate}/"):]
     for folder in glob.glob(top + "*/") + glob.glob(top + "[A-Z]*/*/"):
         if name in os.path.basename(folder[:-1]).split("+") and any(os.path.isfile(folder + file) for file in PROOFS):
             return folder[len(f"crates/{crate}/"):]
