@@ -1,7 +1,8 @@
 #!/usr/bin/env python3
 """Has the prover try wrong programs and wrong statements, and keeps all that it says of them: rt says no more of an edit than that it is refused, and why first.
 
-    tools/edits.py [NAME..]      those of crates/NAME/must-fail; without a name of all crates
+    tools/edits.py [--several] [NAME..]      those of crates/NAME/must-fail; without a name of all crates. --several: the files that hold several, which
+                                             tests/python/edits.py takes apart; a file of one is told by rt itself
 
 A file of edits costs a check of its whole crate. It is tried on a copy of the crate's src/, specs/ and proofs/, over the libraries that stand in crates/*/out (of
 `rt ci`, or of `rt check`; else `rt lib` makes them first), and over what the check of the crate's edit before proved of the same text. The changed files stand in
@@ -88,17 +89,23 @@ def tried(crate, edit, words, below, kept):
     return f"{label}: refused", True
 
 
-def tried_all(crate):
+def is_chosen(edit, several):
+    """Whether a file of edits is to be tried: each, or one that names several."""
+    return not several or re.search(r"^wrong: ", open(edit, encoding="utf-8").read(), re.M) is not None
+
+
+def tried_all(crate, several):
     """The edits of a crate, one behind the other."""
     words, below = asked(f"words_for {crate}"), asked(f"below {crate}").stdout.split()
     check = [asked("kit").stdout.strip() + "/bin/rattle", "check", *words.stdout.split("\n")[:-1], "--jobs", "1"]
     with tempfile.TemporaryDirectory() as room:
-        return [tried(crate, edit, check, below, f"{room}/kept") for edit in sorted(glob.glob(f"{ROOT}/crates/{crate}/must-fail/*.edit"))]
+        return [tried(crate, edit, check, below, f"{room}/kept") for edit in sorted(glob.glob(f"{ROOT}/crates/{crate}/must-fail/*.edit")) if is_chosen(edit, several)]
 
 
 def main():
     every = sorted({path.split("/")[-3] for path in glob.glob(f"{ROOT}/crates/*/must-fail/*.edit")})
-    names = sys.argv[1:] or every
+    several = sys.argv[1:2] == ["--several"]
+    names = sys.argv[1 + several:] or every
     if any(name not in every for name in names):
         sys.exit(f"edits.py: there are no edits in crates/{next(name for name in names if name not in every)}/must-fail")
     for name in names:
@@ -107,7 +114,7 @@ def main():
             sys.exit(f"edits.py: the libraries under {name} are not proved")
     jobs, well = os.environ.get("RT_JOBS", ""), True
     with concurrent.futures.ThreadPoolExecutor(int(jobs) if jobs.isdigit() and jobs != "0" else min(4, len(os.sched_getaffinity(0)))) as pool:
-        for found in pool.map(tried_all, names):
+        for found in pool.map(lambda name: tried_all(name, several), names):
             for said, refused in found:
                 print(said, flush=True)
                 well = well and refused

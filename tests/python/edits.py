@@ -24,7 +24,7 @@ import programs
 
 FUNCTION = re.compile(r'^\s*(?:pub(?:\(crate\))? )?(?:extern "C" )?fn (\w+)', re.M)
 # What rt says where the proof of something else is missing, and where a proof file names what is not in the code: neither shows anything.
-SHOWS_NOTHING = ("was not admitted", "that can be named from here", "was not checked", "were not checked")
+SHOWS_NOTHING = ("was not admitted", "that can be named from here", "was not checked", "were not checked", "has no field", "is not in scope")
 # The files in which a function's proof can stand.
 PROOFS = ("Proof.antt", "Answers.antt", "Invariants.antt")
 
