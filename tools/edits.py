@@ -6,7 +6,7 @@
 
 A file of edits costs a check of its whole crate. It is tried on a copy of the crate's src/, specs/ and proofs/, over the libraries that stand in crates/*/out (of
 `rt ci`, or of `rt check`; else `rt lib` makes them first), and over what the check of the crate's edit before proved of the same text. The changed files stand in
-target/must-fail/NAME/EDIT afterwards, what was said of them in .log there: tests/python/edits.py reads both. A log of the same text is not made again.
+target/must-fail/NAME/EDIT afterwards, with .txt behind their names, what was said of them in .log there: tests/python/edits.py reads both. A log of the same text is not made again.
 RT_JOBS says how many are tried side by side, by default as many as there are processors, at most four. The status is 1 where an edit could not be applied or was not refused.
 """
 import concurrent.futures
@@ -75,9 +75,10 @@ def tried(crate, edit, words, below, kept):
             if os.path.isdir(f"{ROOT}/crates/{crate}/{part}"):
                 shutil.copytree(f"{ROOT}/crates/{crate}/{part}", f"{room}/{part}")
         for file, text in texts.items():
-            for top in (room, where):
-                os.makedirs(os.path.dirname(f"{top}/{file}"), exist_ok=True)
-                with open(f"{top}/{file}", "w", encoding="utf-8") as out:
+            # A file of source stands in no other folder of a checkout, says rt ci; so what was changed bears another ending.
+            for path in (f"{room}/{file}", f"{where}/{file}.txt"):
+                os.makedirs(os.path.dirname(path), exist_ok=True)
+                with open(path, "w", encoding="utf-8") as out:
                     out.write(text)
         ran = subprocess.run([*words, "--incremental", kept], cwd=room, stdin=subprocess.DEVNULL, stdout=subprocess.PIPE, stderr=subprocess.STDOUT, errors="replace", check=False)
     with open(f"{where}/.log", "w", encoding="utf-8") as out:

@@ -135,10 +135,10 @@ def refused(log, crate, proof):
 def together(edit, crate, proofs, texts):
     """What is wrong with an edit of several: a log of another text, one without a proof of its own, or one that is not refused."""
     where = f"target/must-fail/{crate}/{os.path.basename(edit)[:-len('.edit')]}"
-    tried = [f"{where}/{file}" for file in texts] + [f"{where}/.log"]
+    tried = [f"{where}/{file}.txt" for file in texts] + [f"{where}/.log"]
     if not all(map(os.path.isfile, tried)):
         return [f"{where} is not there: tools/edits.py writes it"]
-    if any(open(f"{where}/{file}", encoding="utf-8").read() != text for file, text in texts.items()):
+    if any(open(f"{where}/{file}.txt", encoding="utf-8").read() != text for file, text in texts.items()):
         return [f"{where}/.log is of another text: tools/edits.py writes it again"]
     log, found = open(f"{where}/.log", encoding="utf-8").read(), []
     times = collections.Counter(proof for _, own in proofs for proof in own)
