@@ -5,10 +5,8 @@
 # A folder of the command's own for cargo, so that nothing is written beside the sources; its lock file takes the registry's checksums there.
 lay_out() {
     mkdir -p "$here/target/command" && { [ -d "$made" ] || mkdir -m 700 "$made"; } && mkdir -p "$made/crate/.cargo" || return 1
-    # Copies, with their times, by which cargo goes: rt ci refuses a link, wherever in the checkout it stands. What is as new already is left to who may be reading it.
     for name in Cargo.toml src help systemd; do
-        [ ! -L "$made/crate/$name" ] || rm -f "$made/crate/$name" || return 1
-        cp -Rpu "$here/command/$name" "$made/crate/" || return 1
+        ln -sfn "$here/command/$name" "$made/crate/$name" || return 1
     done
     if [ -d "$registry/clap-4.0.32" ]; then
         printf '[net]\noffline = true\n[source.crates-io]\nreplace-with = "debian"\n[source.debian]\ndirectory = "%s"\n' "$registry"
