@@ -2,12 +2,12 @@
 # How cargo compiles the command: lay_out, compile and failed_before, for the script at the top of the checkout, which sets what they go by (here, built,
 # made, failed, archive, registry, cargo, ending).
 
-# A folder of the command's own for cargo, so that nothing is written beside the sources; its lock file takes the registry's checksums there.
+# A folder of the command's own for cargo, so that nothing is written beside the sources; its lock file takes the registry's checksums there. The manifest says
+# where the sources are: rt ci refuses links anywhere in a checkout.
 lay_out() {
     mkdir -p "$here/target/command" && { [ -d "$made" ] || mkdir -m 700 "$made"; } && mkdir -p "$made/crate/.cargo" || return 1
-    for name in Cargo.toml src help systemd; do
-        ln -sfn "$here/command/$name" "$made/crate/$name" || return 1
-    done
+    { cat "$here/command/Cargo.toml" && printf '\n[[bin]]\nname = "violstream"\npath = "../../../../command/src/main.rs"\n'; } > "$made/crate/Cargo.toml.$$" || return 1
+    mv -f "$made/crate/Cargo.toml.$$" "$made/crate/Cargo.toml" && rm -f "$made/crate/src" "$made/crate/help" "$made/crate/systemd" || return 1
     if [ -d "$registry/clap-4.0.32" ]; then
         printf '[net]\noffline = true\n[source.crates-io]\nreplace-with = "debian"\n[source.debian]\ndirectory = "%s"\n' "$registry"
     fi > "$made/crate/.cargo/config.toml"
