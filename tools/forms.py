@@ -179,8 +179,8 @@ def main():
         del words[at:at + 2]
     root = words[0] if words else HERE
     sources = []
-    for path, _, names in sorted(os.walk(os.path.join(root, "crates"))):
-        if f"{os.sep}src" in path[len(root):]:
+    for crate in sorted(os.listdir(os.path.join(root, "crates"))):
+        for path, _, names in sorted(os.walk(os.path.join(root, "crates", crate, "src"))):
             sources += [Source(root, os.path.relpath(os.path.join(path, name), root)) for name in sorted(names) if name.endswith(".rt")]
     for number, what, look, over in COUNTS:
         if point not in (None, number):
