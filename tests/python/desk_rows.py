@@ -98,7 +98,7 @@ def lending(text):
     text = replaced(text, r"    let done = desk_tickets::file_in\(len, table, filing\);\n", FILED)
     text = replaced(text, r"    let done = desk_tickets::withdraw_in\(len, table, withdrawal\);\n", WITHDRAWN)
     text = replaced(text, r"    let done = desk_boardings::board_in\(\n.*?\n    \);\n", BOARDED, re.S)
-    text = replaced(text, rf"first < {desk.EVENTS} ", f"first < {EVENTS} ")
+    text = replaced(text, rf"\(0\.\.{desk.EVENTS}\)", f"(0..{EVENTS})")
     return replaced(text, r"\n// A table with one record changed", LENT + "// A table with one record changed")
 
 

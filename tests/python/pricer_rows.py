@@ -5,8 +5,8 @@ usage: tests/python/pricer_rows.py [TREE]    TREE: the repository to read, by de
 
 Judged is every function of crates/walk, walk::price among them, and of crates/runs and crates/refusals every function
 that is called from there, with the types and constants that these name. Wrong are: an array (`[x; n]`, `[x, y]`, or the
-type `[T; n]`), a type other than numbers, rows lent by reference, and the structs and enums of these crates; recursion;
-a call of anything else. What is left takes stack for the single variables of a chain of calls, whatever the input;
+type `[T; n]`), a type other than numbers, rows lent by reference, the structs and enums of these crates, and Option and
+Result of these; recursion; a call of anything else but what goes over a row that is lent, or chooses among numbers. What is left takes stack for the single variables of a chain of calls, whatever the input;
 tests/c/stack.c measures how much that is.
 
 So that a reader that sees nothing does not pass, each of these mistakes is then planted in each function, and must be found.
@@ -24,8 +24,11 @@ import programs
 JUDGED, BELOW = "walk", ("walk", "runs", "refusals")
 ENTRY = ("walk", None, "price")
 NUMBERS = {"u8", "u16", "u32", "u64", "usize", "i8", "i16", "i32", "i64", "isize", "bool"}
-WORDS_IN_TYPES = NUMBERS | {"mut", "self", "Self"}
-METHODS_OF_ROWS = {"len"}
+WORDS_IN_TYPES = NUMBERS | {"mut", "self", "Self", "Option", "Result"}
+CASES = {"Some", "None", "Ok", "Err"}
+# What is asked of a row that is lent, or of two, one entry after the other; and of numbers. None of these holds anything for each entry.
+METHODS_OF_ROWS = {"len", "is_empty", "contains", "last", "split_first", "iter", "zip", "enumerate", "rev", "any"}
+METHODS_OF_NUMBERS = {"min", "max"}
 KEYWORDS = {"if", "while", "match", "return", "in", "as", "let", "mut", "else", "for", "loop", "break"}
 # Mistakes to plant, each with words of the complaint that it must bring; FUNCTION is the one in which it is planted.
 PLANTED = (
@@ -216,8 +219,8 @@ class Judge:
                 raise Wrong(f"{f.file}: {f.name} has the macro {words[i - 1]}")
             if word in self.items:
                 self.judge_item(word)
-        calls = [i for i, word in enumerate(words) if word == "(" and i > 0 and is_name(words[i - 1])]
-        return {self.called(f, words, i) for i in calls} - {None}
+        calls = [i for i, word in enumerate(words) if word == "(" and i > 0 and is_name(words[i - 1]) and words[i - 1] not in CASES]
+        return {key for i in calls for key in self.called(f, words, i)}
 
     def without_types(self, f):
         """The words of a body without the types at `let`, which are judged."""
@@ -248,25 +251,25 @@ class Judge:
             self.judge_types(self.items[name], self.items[name].types)
 
     def called(self, f, words, at):
-        """The function that is called by the bracket at this word; None for a method of rows and a variant of an enum."""
+        """The functions that the bracket at this word may call: one, or each method of a name; none for a method of rows or numbers and a variant of an enum."""
         i = at - 1
         while i > 1 and words[i - 1] == "::":
             i -= 2
         path = [f.kind if p == "Self" else p for p in words[i:at:2] if p not in ("crate", "self", "super")]
         if i > 0 and words[i - 1] == ".":
             found = [key for key in self.functions if key[1] is not None and key[2] == path[0]]
-            if not found and path[0] in METHODS_OF_ROWS:
-                return None
+            if found or path[0] in METHODS_OF_ROWS | METHODS_OF_NUMBERS:
+                return found
         else:
             path = f.uses.get(path[0], path[:1]) + path[1:]
             crate = path[0] if path[0] in self.crates else f.crate
             kind = path[-2] if len(path) > 1 and path[-2] in self.items else None
             if kind and path[-1] in self.items[kind].variants:
-                return None
+                return []
             found = [key for key in self.functions if key == (crate, kind, path[-1])]
         if len(found) != 1:
             raise Wrong(f"{f.file}: {f.name} calls {'::'.join(path)}, which is no one function of {', '.join(BELOW)}")
-        return found[0]
+        return found
 
 
 def shown(key):

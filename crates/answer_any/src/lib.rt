@@ -11,11 +11,12 @@ ghost use Rattle.answer_any.specs.AnyLists.{RunListedAny, TextOfList};
 ghost use Rattle.answer_any.specs.Private.{RowsPlanned};
 
 use answer_plan::PlannedList;
-use refusals::{Verdict, refused};
+use refusals::Verdict;
 use sheet_runs::{SheetRun, entries};
 use sheet_writer::Written;
 
 // The plan of a run, with rows for as many wants as a run can have.
+// Stays: as in answer_plan with a planner of other parameters, so that no bound holds both.
 fn plan_rows(
     starts: &[u64],
     lengths: &[u64],
@@ -50,11 +51,11 @@ fn plan_rows(
 }
 
 // The least list of a sheet's run.
+// Stays: as in answer_plan over another planner; one over a planner that is passed in names its parameters in a bound and in a clause.
 pub fn list_any(run: SheetRun, room: &mut [u64]) -> PlannedList
     ensures { RunListedAny run room.old result room.new }
 {
-    let verdict = run.verdict;
-    if refused(verdict) {
+    if let Err(verdict) = run.verdict.told() {
         return PlannedList {
             verdict,
             detours: 0,
@@ -82,6 +83,7 @@ pub fn list_any(run: SheetRun, room: &mut [u64]) -> PlannedList
 }
 
 // The plan sheet of a sheet's run and a list in two rows.
+// Stays: as in answer_plan over another writer; one over a writer that is passed in names its eleven parameters in a bound and in a clause.
 fn write_text(name: &[u8], run: SheetRun, froms: &[u64], tos: &[u64], out: &mut [u8]) -> Written
     ensures { PlanAnyWritten name.now (run_held run) froms.now tos.now out.old result out.new }
 {
@@ -129,8 +131,7 @@ pub fn answer(sheet: &[u8], out: &mut [u8], room: &mut [u64]) -> Written
 {
     let run = sheet_runs::read_run(sheet);
     let planned = list_any(run, room);
-    let verdict = planned.verdict;
-    if refused(verdict) {
+    if let Err(verdict) = planned.verdict.told() {
         return sheet_writer::answer_to(verdict, 0);
     }
     write_any(sheet, run, planned, out)
@@ -143,8 +144,7 @@ pub fn recall_any(sheet: &[u8], out: &mut [u8], room: &mut [u64]) -> u64
 {
     let run = sheet_runs::read_run(sheet);
     let list = list_any(run, room);
-    let verdict = list.verdict;
-    if refused(verdict) {
+    if let Err(verdict) = list.verdict.told() {
         let lines = sheet_writer::write_refusal(verdict, out);
         return lines.bytes;
     }

@@ -8,11 +8,11 @@ ghost use Rattle.answer_plan.specs.PlannedLists.{WrittenBy};
 ghost use Rattle.answer_buys.specs.Buys.{SheetBought};
 
 use answer_plan::PlannedList;
-use refusals::refused;
 use sheet_runs::{SheetRun, entries};
 use sheet_writer::Written;
 
 // The figure sheet of a sheet's run and a list.
+// Stays: as in answer_plan over another writer; one over a writer that is passed in names its eleven parameters in a bound and in a clause.
 fn write_text(name: &[u8], run: SheetRun, froms: &[u64], tos: &[u64], out: &mut [u8]) -> Written
     ensures { FigureWritten name.now (run_held run) froms.now tos.now out.old result out.new }
 {
@@ -39,11 +39,11 @@ fn write_text(name: &[u8], run: SheetRun, froms: &[u64], tos: &[u64], out: &mut 
 }
 
 // The figure sheet of a list, or the two lines of its refusal, in the first bytes of a row: how many they are.
+// Stays: as in answer_plan over another text; one over a writer that is passed in needs a record of what it leaves, which is longer.
 fn write_list(sheet: &[u8], run: SheetRun, list: PlannedList, out: &mut [u8]) -> u64
     ensures { WrittenBy FigureWritten sheet.now run list out.old result out.new }
 {
-    let verdict = list.verdict;
-    if refused(verdict) {
+    if let Err(verdict) = list.verdict.told() {
         let lines = sheet_writer::write_refusal(verdict, out);
         return lines.bytes;
     }

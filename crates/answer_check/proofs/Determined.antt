@@ -10,6 +10,7 @@ use Rattle.runs.specs.Run.{Run, stops_of}
 use Rattle.runs.specs.Lists.{Detour}
 use Rattle.least.specs.AnyHead.{LeastAny}
 use Rattle.least.proofs.LeastAny.{least_any_unique}
+use Rattle.std.specs.Prelude.{Option, Some, None}
 use Rattle.text_inputs.specs.declared.Framed.{Framed}
 use Rattle.sheet_reader.specs.Sheet.{sheet_run, sheet_name}
 use Rattle.sheet_writer.specs.declared.Written.{Written}
@@ -18,7 +19,7 @@ use Rattle.sheet_writer.proofs.Sheets.{handed_determined}
 use Rattle.answer_plan.specs.Recall.{bytes_put, row_put}
 use Rattle.sheet_lists.specs.Form.{plan_froms, plan_tos}
 use Rattle.answer_check.specs.RunRules.{RunRules, head_anywhere}
-use Rattle.answer_check.specs.Pricing.{RowHolds, PriceGiven, SheetPriced}
+use Rattle.answer_check.specs.Pricing.{RowHolds, SheetPriced}
 use Rattle.answer_check.specs.Checking.{check_text, verdict_on, VerdictOf, AnswersCheck, Checked, CheckGiven, SheetChecked, CheckAnswered}
 use Rattle.answer_check.specs.Inputs.{framed_input, AnsweredIn, InputPriced, InputChecked}
 
@@ -75,9 +76,9 @@ check_determined sheet plan row room w w' row' row'' room' room'' p q = go (is_r
 -- Where the answer to two texts is determined, so is that to an input of both.
 module _ (Answers : List ℕ → List ℕ → List ℕ → ℕ → List ℕ → Type 0)
     (once : (a b row : List ℕ) (n n' : ℕ) (row' row'' : List ℕ) → Answers a b row n row' → Answers a b row n' row'' → (n ≡ n') × (row' ≡ row'')) (input : List ℕ) where
-  answered_once : (f : Framed) (row : List ℕ) (n n' : ℕ) (row' row'' : List ℕ) → AnsweredIn Answers input f row n row' → AnsweredIn Answers input f row n' row'' → (n ≡ n') × (row' ≡ row'')
-  answered_once (Framed.Sheet from to) row n n' row' row'' p q = once _ _ row n n' row' row'' p q
-  answered_once Framed.Bad row n n' row' row'' p q = held_once _ _ row refl n n' row' row'' p q
+  answered_once : (f : Option Framed) (row : List ℕ) (n n' : ℕ) (row' row'' : List ℕ) → AnsweredIn Answers input f row n row' → AnsweredIn Answers input f row n' row'' → (n ≡ n') × (row' ≡ row'')
+  answered_once (Some f) row n n' row' row'' p q = once _ _ row n n' row' row'' p q
+  answered_once None row n n' row' row'' p q = held_once _ _ row refl n n' row' row'' p q
 
 pub price_input_determined : (input row : List ℕ) (n n' : ℕ) (row' row'' : List ℕ) → InputPriced input row n row' → InputPriced input row n' row'' → (n ≡ n') × (row' ≡ row'')
 price_input_determined input row n n' row' row'' p q = answered_once SheetPriced price_determined input (framed_input input) row n n' row' row'' p q

@@ -1,6 +1,6 @@
 -- Two texts compared byte by byte: the first line in which they differ.
 use Prim.Native.Nat.{ℕ, suc, ◌+◌, ◌≤◌, ◌<◌}
-use mathlib.Core.Path.{◌≡◌, refl, sym, ap, ◌∙◌}
+use mathlib.Core.Path.{◌≡◌, refl}
 use mathlib.Core.List.{List, [], ◌∷◌}
 use native.Mathlib.Omega.{arith}
 use native.Mathlib.Numerals.{add-one}
@@ -8,7 +8,6 @@ use lib.ListN.{length, drop, get_or, drop_of_length-le}
 use lib.Seq.{drop-cons}
 use borrow.Author.Tests.{eq-eqb, ne_eqb}
 use Rattle.text_bytes.specs.Text.{line_feed}
-use Rattle.answer_check.specs.declared.Difference.{Difference}
 use Rattle.answer_check.specs.Checking.{differ_from, first_difference}
 
 -- So many bytes are the same, and what is left decides.
@@ -20,9 +19,6 @@ pub record Differing (plan expected : List ℕ) (line start i : ℕ) : Type 0 wh
 drop_none : (text : List ℕ) → drop 0 text ≡ text
 drop_none [] = refl
 drop_none (b ∷ text) = refl
-
-pub differing_none : (plan expected : List ℕ) → Differing plan expected 1 0 0
-differing_none plan expected = record { within = omega arith; few = omega arith; same = rw (drop_none plan, drop_none expected) }
 
 module _ (plan expected : List ℕ) (line start i : ℕ) (p : Differing plan expected line start i) where
   module _ (l : i < length plan) where

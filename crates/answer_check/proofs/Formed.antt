@@ -1,30 +1,29 @@
 -- A list or a plan sheet: what a reader of it leaves in rows of 63 entries, by value.
 use Prim.Native.Nat.{ℕ, zero, suc, ◌≤◌}
-use mathlib.Core.Path.{◌≡◌, refl, sym, ap, ◌∙◌}
-use mathlib.Core.Bool.{Bool, true, false, cond, true≢false, ◌&&◌}
+use mathlib.Core.Path.{◌≡◌, refl, sym, ◌∙◌}
+use mathlib.Core.Bool.{Bool, true, false}
 use mathlib.Core.List.{List, [], ◌∷◌, ◌++◌}
 use native.Mathlib.Omega.{arith}
 use lib.ListN.{length, take, drop}
 use lib.Seq.{take_at}
 use lib.Dec.{leb, ltb}
 use borrow.Author.Tests.{leb-true, ltb-false, le-ltb}
-use Rattle.refusals.specs.declared.Refusal.TheVariants.{BadLine, LongSheet, ShortRow}
+use Rattle.refusals.specs.declared.Refusal.TheVariants.{BadLine, LongSheet}
 use Rattle.refusals.specs.declared.Verdict.{Verdict}
-use Rattle.refusals.specs.Refusals.{is_refusal, refuse_if, refuse_at, first_of, accepted}
+use Rattle.refusals.specs.Refusals.{first_of, accepted}
 use Rattle.refusals.proofs.Verdicts.{refuses, all_accept, none_refuses, accepts_if, accepts_at}
 use Rattle.text_bytes.specs.Text.{line_feed, behind}
 use Rattle.text_bytes.proofs.Bytes.{and_true_both}
 use Rattle.text_lines.specs.Lines.{line_of, line_after, after_lines, is_number_line, number_behind, first_in, second_in, each_of}
 use Rattle.sheet_reader.specs.Lines.{is_tape_line, is_count_line}
 use Rattle.sheet_reader.specs.Sheet.{longest_sheet, first_some}
-use Rattle.sheet_reader.specs.Reading.{read_row, short_pair_rows}
+use Rattle.sheet_reader.specs.Reading.{read_row}
 use Rattle.sheet_reader.proofs.Rows.{length_each}
 use Rattle.sheet_writer.specs.PlanSheet.{sum_key, reads_key, finish_key, end_key, detours_key, detour_key}
 use Rattle.sheet_lists.specs.declared.ListReading.{ListReading}
-use Rattle.sheet_lists.specs.Form.{most_detours, first_failing, detours_told, plan_bad_top, plan_bad_below, plan_bad_line, is_plan, detour_text, plan_froms, plan_tos, list_detours, list_text, list_froms, list_tos, list_bad_line, lines_up_to, starts_on, ends_on}
+use Rattle.sheet_lists.specs.Form.{most_detours, first_failing, detours_told, plan_bad_top, plan_bad_below, plan_bad_line, is_plan, detour_text, plan_froms, plan_tos, list_detours, list_text, list_froms, list_tos, list_bad_line, starts_on, ends_on}
 use Rattle.sheet_lists.specs.Reading.{plan_form, list_form, form_checks, pairs_verdict, ReadBy, ListRead, PlanRead}
 use Rattle.sheet_lists.proofs.Counting.{up_to_few}
-use Rattle.answer_plan.specs.declared.PlannedList.{PlannedList}
 use Rattle.answer_check.specs.Private.{HandedIn}
 
 -- Where no line fails, the first passes and none behind it fails.

@@ -1,53 +1,55 @@
 -- The lines of a verdict on a page.
+use Rattle.std.specs.Cmp.Lexicographic.{pointwise}
+use Rattle.std.proofs.lemmas.Bool.Decides.{same_from_decides, Decides-eqb}
+use Rattle.std.proofs.lemmas.Slice.Eq.{IsBytesEq, compares_Decides, slice_eq-Decides}
+use lib.Dec.{eqb, eqb-suc-zero, eqb-zero-suc, eqb-suc-suc}
 use Prim.Native.Nat.{ℕ, ◌+◌, ◌-◌, ◌≤◌}
-use mathlib.Core.Path.{◌≡◌, refl, sym, ap, ◌∙◌, subst}
-use mathlib.Core.Bool.{Bool, true, false, not, true≢false, ◌&&◌}
-use mathlib.Core.List.{List, [], ◌∷◌, ◌++◌, append_assoc}
+use mathlib.Core.Path.{◌≡◌, refl, sym, ◌∙◌, subst}
+use mathlib.Core.Bool.{Bool, true, false, true≢false, ◌&&◌}
+use mathlib.Core.List.{List, [], ◌∷◌, ◌++◌}
 use native.Mathlib.Omega.{arith}
 use lib.ListN.{length, take, drop, length-take, length-drop}
-use lib.Seq.{length-take-le}
-use Rattle.text_bytes.specs.Text.{line_feed, has, before, starts_with, is_text}
+use Rattle.text_bytes.specs.Text.{line_feed, has, starts_with, is_text}
 use Rattle.text_lines.specs.declared.Keyed.{Keyed}
 use Rattle.text_lines.specs.Lines.{line_of}
 use Rattle.text_lines.specs.Found.{ValueAt, ValueFound}
-use Rattle.text_lines.proofs.Passing.{unkeyed, value_at}
+use Rattle.std.specs.Prelude.{Option, Some, None}
 use Rattle.text_pages.specs.Printing.{line, number_line, Wrote, Put}
 use Rattle.text_pages.proofs.Pages.{wrote_within, wrote_both, wrote_long}
 use Rattle.answer_check.specs.declared.Difference.{Difference}
-use Rattle.answer_check.specs.declared.VerdictPage.{VerdictPage}
 use Rattle.answer_check.specs.Checking.{formed_yes, walk_yes, walk_no, least_yes, least_no, found_key, expected_key, first_difference, walk_line, difference_lines}
 use Rattle.answer_check.specs.Private.{least_line_by, verdict_by, difference_most, PageIs}
 
 -- A line of a text, found behind no key.
-module _ (text : List ℕ) (start : ℕ) (r : Keyed) (found : ValueFound [] text start r) where
-  pub line_none : r ≡ Keyed.Bad → [] ≡ line_of (drop start text)
+module _ (text : List ℕ) (start : ℕ) (r : Option Keyed) (found : ValueFound [] text start r) where
+  pub line_none : r ≡ None → [] ≡ line_of (drop start text)
   unfolding line_of starts_with
   line_none e =
-      let bad : (has line_feed (drop start text) && true) ≡ false = unkeyed [] text start r found e in
+      let bad : (has line_feed (drop start text) && true) ≡ false = subst (ValueFound [] text start) e found in
       go (has line_feed (drop start text)) refl bad
     where
       go : (b : Bool) → has line_feed (drop start text) ≡ b → (b && true) ≡ false → [] ≡ line_of (drop start text)
       go true e bad = absurd (true≢false bad)
       go false e bad = rw e
 
-  module _ (from end : ℕ) (e : r ≡ Keyed.Text from end) where
-    at_value : ValueAt [] text start from end
-    at_value = value_at [] text start r found from end e
+  module _ (value : Keyed) (e : r ≡ Some value) where
+    at_value : ValueAt [] text start value.from value.end
+    at_value = subst (ValueFound [] text start) e found
 
-    pub line_ordered : from ≤ end
+    pub line_ordered : value.from ≤ value.end
     line_ordered = at_value.ordered
 
-    pub line_inside : end ≤ length text
+    pub line_inside : value.end ≤ length text
     line_inside = omega (arith, at_value.within)
 
-    pub line_some : take (end - from) (drop from text) ≡ line_of (drop start text)
+    pub line_some : take (value.end - value.from) (drop value.from text) ≡ line_of (drop start text)
     line_some = at_value.value ∙ no_key (line_of (drop start text))
       where
         no_key : (xs : List ℕ) → drop 0 xs ≡ xs
         no_key [] = refl
         no_key (x ∷ xs) = refl
 
-    pub line_short : length (take (end - from) (drop from text)) ≤ length text
+    pub line_short : length (take (value.end - value.from) (drop value.from text)) ≤ length text
     line_short = simp (length-take, length-drop) (omega (arith, line_inside, line_ordered))
 
 -- That line behind a key, on a page with room for the whole text.
@@ -83,9 +85,6 @@ difference_is plan expected b is e d d-is = rw (sym is ∙ e, d-is)
 pub least_is : (b : Bool) (by : ℕ) → b ≡ true → least_line_by b by ≡ least_yes
 least_is b by e = rw e
 
-pub least_not : (b : Bool) (by : ℕ) → b ≡ false → least_line_by b by ≡ number_line least_no by
-least_not b by e = rw e
-
 -- Two texts one behind the other are a third.
 pub both_put : (page : List ℕ) (at : ℕ) (a : List ℕ) (m : ℕ) (page₁ : List ℕ) (next : ℕ) (b : List ℕ) (n : ℕ) (page₂ : List ℕ) (last : ℕ) (whole : List ℕ) → whole ≡ a ++ b
     → Wrote page at a m page₁ next → Wrote page₁ next b n page₂ last → Wrote page at whole (m + n) page₂ last
@@ -102,25 +101,31 @@ verdict_put plan expected least by page₀ page₁ at₁ page₂ at₂ page₃ a
 pub room_left_lem : (page : List ℕ) (at : ℕ) (text : List ℕ) (most : ℕ) (page' : List ℕ) (next : ℕ) (more : ℕ) → at + (most + more) ≤ length page → Wrote page at text most page' next → next + more ≤ length page'
 room_left_lem page at text most page' next more r w = omega (arith, w.within, wrote_long w (omega arith))
 
-pub room_put : (page : List ℕ) (at : ℕ) (text : List ℕ) (few most : ℕ) (page' : List ℕ) (next : ℕ) (more : ℕ) → few ≤ most → at + (most + more) ≤ length page → Put page at text few page' next → next + more ≤ length page'
-room_put page at text few most page' next more l r p = room_left_lem page at text most page' next more r (wrote_within (p.room (omega arith)) most l)
-
 -- A text that was put on a page, by value.
-pub page_put : (page text : List ℕ) (most : ℕ) (page' : List ℕ) (n : ℕ) → most ≤ length page → Wrote page 0 text most page' n → PageIs text (record { bytes = n; text = page' })
+pub page_put : (page text : List ℕ) (most : ℕ) (page' : List ℕ) (n : ℕ) → most ≤ length page → Wrote page 0 text most page' n → PageIs text page' n
 page_put page text most page' n l w = record { within = omega (arith, w.within, wrote_long w (omega arith)); says = w.bytes }
 
--- Whether two rows are two others, one after the other.
-not_so : (b : Bool) → not b ≡ true → b ≡ false
-not_so true e = sym e
-not_so false e = refl
+-- Whether two rows are the same, and two others.
+swapped : (a b d : Bool) → (a && (b && d)) ≡ (b && (a && d))
+swapped true b d = refl
+swapped false true d = refl
+swapped false false d = refl
 
-so : (b : Bool) → not b ≡ false → b ≡ true
-so true e = refl
-so false e = sym e
+compared : IsBytesEq is_text
+unfolding starts_with
+compared =
+    record {
+      empty = refl;
+      shorter = λ y ys. rw (eqb-zero-suc (length ys));
+      longer = λ x xs. rw (eqb-suc-zero (length xs));
+      heads = λ x y xs ys. rw (eqb-suc-suc (length xs) (length ys)) (swapped (eqb (length xs) (length ys)) (eqb x y) (starts_with xs ys));
+    }
 
-pub rows_differ : (b : Bool) (row wanted row' wanted' : List ℕ) (other : Bool) → b ≡ is_text wanted row → wanted ≡ wanted' → row ≡ row' → not b ≡ true → false ≡ (is_text wanted' row' && other)
-rows_differ b row wanted row' wanted' other is w r e = rw (← w, ← r, ← is, not_so b e)
+pub row_same : (xs ys : List ℕ) (r : Bool) → r ≡ pointwise eqb xs ys → r ≡ is_text xs ys
+row_same xs ys r e = same_from_decides r (is_text xs ys) (slice_eq-Decides Decides-eqb xs ys r e) (compares_Decides is_text compared xs ys)
 
-pub rows_same : (b d : Bool) (row wanted row' wanted' more least more' least' : List ℕ) → b ≡ is_text wanted row → wanted ≡ wanted' → row ≡ row' → not b ≡ false
-    → d ≡ is_text least more → least ≡ least' → more ≡ more' → d ≡ (is_text wanted' row' && is_text least' more')
-rows_same b d row wanted row' wanted' more least more' least' is w r e d-is l m = rw (← w, ← r, ← is, so b e, ← l, ← m) d-is
+pub rows_same : (b d b' d' : Bool) → b ≡ b' → d ≡ d' → b ≡ true → d ≡ (b' && d')
+rows_same b d b' d' e f t = rw (← e, t, f)
+
+pub rows_differ : (b b' d' : Bool) → b ≡ b' → b ≡ false → b ≡ (b' && d')
+rows_differ b b' d' e f = rw (← e, f)

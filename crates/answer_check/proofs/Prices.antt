@@ -2,13 +2,15 @@
 use Prim.Native.Nat.{ℕ, ◌≤◌}
 use mathlib.Core.Path.{◌≡◌, refl, sym, ap, ◌∙◌, subst}
 use mathlib.Core.Bool.{Bool, true, false, true≢false}
-use mathlib.Core.List.{List, [], ◌∷◌, ◌++◌}
+use mathlib.Core.List.{List, ◌∷◌}
 use native.Mathlib.Omega.{arith}
 use lib.ListN.{length, take, length-take}
 use borrow.Author.Tests.{le-ltb}
 use Rattle.refusals.specs.declared.Verdict.{Verdict}
-use Rattle.refusals.specs.Refusals.{is_refusal, first_of, accepted}
+use Rattle.refusals.specs.Refusals.{is_refusal, first_of, checked}
+use Rattle.refusals.proofs.Checked.{passed, stopped, checked_passes, checked_stops}
 use Rattle.refusals.proofs.Verdicts.{refuses, test_says, first_refuses, first_passes, all_accept, none_refuses}
+use Rattle.std.specs.Prelude.{Result, Ok, Err}
 use Rattle.runs.specs.Run.{Run, stops_of}
 use Rattle.runs.specs.Lists.{list_of}
 use Rattle.runs.specs.AnyHead.{judge_any_of, list_verdict_any}
@@ -18,7 +20,7 @@ use Rattle.walk.specs.AnyHead.{priced_any_answer, price_any_verdict, price_any_a
 use Rattle.walk.specs.Rows.{ReadRows}
 use Rattle.text_bytes.specs.Text.{is_name}
 use Rattle.sheet_reader.specs.Sheet.{sheet_run, sheet_name}
-use Rattle.sheet_reader.specs.Reading.{sheet_verdict, rule_verdict, read_name}
+use Rattle.sheet_reader.specs.Reading.{sheet_verdict, rule_verdict}
 use Rattle.sheet_runs.specs.declared.SheetRun.{SheetRun}
 use Rattle.sheet_runs.specs.SheetRuns.{run_by_value, run_held}
 use Rattle.sheet_runs.proofs.Runs.{SheetHolds, refused_first, sheet_holds}
@@ -34,10 +36,17 @@ use Rattle.answer_plan.proofs.Answered.{moved}
 use Rattle.answer_any.specs.AnyLists.{TextOfList}
 use Rattle.sheet_lists.specs.Form.{list_froms, list_tos}
 use Rattle.sheet_lists.specs.Reading.{list_form}
-use Rattle.answer_check.specs.declared.Priced.{Priced}
 use Rattle.answer_check.specs.RunRules.{head_anywhere}
-use Rattle.answer_check.specs.Pricing.{price_checks, pricing_verdict, price_text, RowHolds, SheetPriced}
+use Rattle.answer_check.specs.Pricing.{pricing_verdict, price_text, RowHolds, SheetPriced}
 use Rattle.answer_check.specs.Private.{HandedIn, list_checks, PricedList, first_refusal, judged_list}
+
+-- An answer's verdict; and what `?` makes of the answer.
+abbrev pub verdict_in : Answer → Verdict
+verdict_in a = record { refusal = a.refusal; place = a.place }
+
+abbrev pub ToldBy : Answer → Result ℕ Verdict → Type 0
+ToldBy a (Ok sum) = (Ok tt ≡ checked (verdict_in a)) × (sum ≡ a.sum)
+ToldBy a (Err v) = Err v ≡ checked (verdict_in a)
 
 -- The pricer's rows hold 64 entries, so that 8 never applies.
 module _ (run : Run) (froms tos : List ℕ) (rows : ReadRows) (few : length run.numbers ≤ 64) (times : length rows.times ≡ 64) (legs : length rows.legs ≡ 64) where
@@ -46,28 +55,32 @@ module _ (run : Run) (froms tos : List ℕ) (rows : ReadRows) (few : length run.
   price_verdict_here =
       rw (le-ltb (length rows.times) (length run.numbers) (omega (arith, few, times)), le-ltb (length rows.legs) (length run.numbers) (omega (arith, few, legs))) refl
 
-  pub list_priced : (a : Answer) → a ≡ price_any_answer run froms tos rows → PricedList run froms tos (record { verdict = record { refusal = a.refusal; place = a.place }; sum = a.sum })
+  -- The pricer's refusal is theirs, and what it hands on by `?` is theirs too.
+  says_so : (a : Answer) → a ≡ price_any_answer run froms tos rows
+      → (verdict_in a ≡ first_of (list_checks run froms tos)) × (refuses (first_of (list_checks run froms tos)) ≡ false → a.sum ≡ (priced_any_answer run (list_of froms tos)).sum)
   unfolding price_any_answer priced_any_answer
-  list_priced a is = go (refuses (first_of (list_checks run froms tos))) refl
+  says_so a is = go (refuses (first_of (list_checks run froms tos))) refl
     where
-      go : (b : Bool) → refuses (first_of (list_checks run froms tos)) ≡ b → PricedList run froms tos (record { verdict = record { refusal = a.refusal; place = a.place }; sum = a.sum })
+      go : (b : Bool) → refuses (first_of (list_checks run froms tos)) ≡ b
+          → (verdict_in a ≡ first_of (list_checks run froms tos)) × (refuses (first_of (list_checks run froms tos)) ≡ false → a.sum ≡ (priced_any_answer run (list_of froms tos)).sum)
       go true e =
           let said : a ≡ refusal_answer (first_of (list_checks run froms tos)) = rw (price_verdict_here, e) at is in
-          record { verdict = ap (λ x. record { refusal = x.refusal; place = x.place }) said; sum = λ q. absurd (true≢false (sym e ∙ q)) }
+          (ap verdict_in said, λ q. absurd (true≢false (sym e ∙ q)))
       go false e =
           let said : a ≡ priced_any_answer run (list_of froms tos) = rw (price_verdict_here, e) at is in
-          record {
-            verdict = ap (λ x. record { refusal = x.refusal; place = x.place }) said ∙ sym (none_refuses (list_checks run froms tos) e);
-            sum = λ q. ap (λ x. x.sum) said;
-          }
+          (ap verdict_in said ∙ sym (none_refuses (list_checks run froms tos) e), λ q. ap (λ x. x.sum) said)
+
+  list_priced : (a : Answer) → a ≡ price_any_answer run froms tos rows → (r : Result ℕ Verdict) → ToldBy a r → PricedList run froms tos r
+  list_priced a is (Ok sum) told = let s = says_so a is in let e = ap refuses (sym s.0) ∙ passed _ _ told.0 in (e, told.1 ∙ s.1 e)
+  list_priced a is (Err v) told = let t = stopped _ _ told in (ap refuses (sym t.is) ∙ t.so, sym t.is ∙ (says_so a is).0)
 
 -- The run and the list by value.
 pub priced_held : (r : SheetRun) (l : PlannedList) (run : Run) → run ≡ run_held r → (froms tos : List ℕ) → froms ≡ take l.detours l.froms → tos ≡ take l.detours l.tos → length r.numbers ≡ 64
     → (rows : ReadRows) → length rows.times ≡ 64 → length rows.legs ≡ 64 → (a : Answer) → a ≡ price_any_answer run froms tos rows
-    → PricedList (run_held r) (take l.detours l.froms) (take l.detours l.tos) (record { verdict = record { refusal = a.refusal; place = a.place }; sum = a.sum })
-priced_held r l run e froms tos f t long rows times legs a is =
+    → (p : Result ℕ Verdict) → ToldBy a p → PricedList (run_held r) (take l.detours l.froms) (take l.detours l.tos) p
+priced_held r l run e froms tos f t long rows times legs a is p told =
     let few : length (take r.wants r.numbers) ≤ 64 = rw length-take (omega (arith, long)) in
-    list_priced (run_held r) (take l.detours l.froms) (take l.detours l.tos) rows few times legs a (is ∙ rw (e, f, t) refl)
+    list_priced (run_held r) (take l.detours l.froms) (take l.detours l.tos) rows few times legs a (is ∙ rw (e, f, t) refl) p told
 
 -- A text handed out is held.
 pub handed_holds : (text row : List ℕ) (w : Written) (row' : List ℕ) → Handed (row_verdict text row) text row w row' → RowHolds text row w.bytes row'
@@ -85,11 +98,8 @@ stays v w e = rw e
 pub passes : (v w : Verdict) → refuses v ≡ false → w ≡ first_refusal v w
 passes v w e = rw e
 
-pub first_stays : (v w : Verdict) (f : Bool) → f ≡ is_refusal v.refusal → f ≡ true → v ≡ first_refusal v w
-first_stays v w f is e = stays v w (sym is ∙ e)
-
-pub first_passes_on : (v w : Verdict) (f : Bool) → f ≡ is_refusal v.refusal → f ≡ false → w ≡ first_refusal v w
-first_passes_on v w f is e = passes v w (sym is ∙ e)
+pub goes_on : (v w : Verdict) (u : Unit) (r : Result Unit Verdict) → Ok u ≡ checked v → r ≡ checked w → r ≡ checked (first_refusal v w)
+goes_on v w u r said rest = rw (passed v u said) rest
 
 pub first_says : (v w : Verdict) → refuses (first_refusal v w) ≡ false → (refuses v ≡ false) × (refuses w ≡ false)
 first_says v w e = go (refuses v) refl
@@ -97,13 +107,6 @@ first_says v w e = go (refuses v) refl
     go : (f : Bool) → refuses v ≡ f → (refuses v ≡ false) × (refuses w ≡ false)
     go true h = absurd (true≢false (sym h ∙ (rw h at e)))
     go false h = (h, rw h at e)
-
-pub both_first : (v w a b c : Verdict) → v ≡ first_refusal a w → w ≡ first_refusal b c → v ≡ first_refusal a (first_refusal b c)
-both_first v w a b c e f = e ∙ ap (first_refusal a) f
-
-pub judged_by : (r : SheetRun) (l : PlannedList) (p : Priced) → PricedList (run_held r) (take l.detours l.froms) (take l.detours l.tos) p → (w : Verdict) → w ≡ first_refusal l.verdict p.verdict
-    → (v : Verdict) → v ≡ first_refusal r.verdict w → v ≡ judged_list r l
-judged_by r l p priced w e v f = rw (f, e, priced.verdict)
 
 -- The verdict on a run sheet and another text, from those on the sheet's run, on the text's form and on both together.
 module _ (sheet : List ℕ) (r : SheetRun) (is : r ≡ run_by_value sheet) where

@@ -7,7 +7,7 @@ use mathlib.Core.List.{List, [], ◌∷◌}
 use Rattle.refusals.specs.declared.Refusal.TheVariants.{HeadPlace, ShortRoom}
 use Rattle.refusals.specs.declared.Verdict.{Verdict}
 use Rattle.refusals.specs.Refusals.{is_refusal, first_of}
-use Rattle.refusals.proofs.Verdicts.{refuses, first_refuses, first_passes, all_accept}
+use Rattle.refusals.proofs.Verdicts.{refuses, first_refuses, all_accept}
 use Rattle.runs.specs.Run.{Run, stops_of}
 use Rattle.runs.specs.Judging.{judge_of}
 use Rattle.runs.specs.Lists.{Detour, list_of}

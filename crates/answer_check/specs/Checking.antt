@@ -3,7 +3,7 @@
 use Rattle.std.specs.Prelude.{ℕ, suc, ◌-◌, ◌≡◌, Bool, true, false, cond, ◌&&◌, List, [], ◌∷◌, ◌++◌, map, length, drop, eqb, ltb}
 use Rattle.refusals.specs.declared.Refusal.TheVariants.{ShortRoom}
 use Rattle.refusals.specs.declared.Verdict.{Verdict}
-use Rattle.refusals.specs.Refusals.{is_refusal, refuse_if, first_of}
+use Rattle.refusals.specs.Refusals.{is_refusal, refuse_if}
 use Rattle.runs.specs.Run.{Run}
 use Rattle.runs.specs.Lists.{Detour, list_of}
 use Rattle.planner.specs.Plan.{room_for}

@@ -2,7 +2,7 @@
 -- that applies; and the row that takes the answer. The head may stand anywhere.
 use Rattle.std.specs.Prelude.{ℕ, ◌≡◌, cond, List, [], ◌∷◌}
 use Rattle.refusals.specs.declared.Verdict.{Verdict}
-use Rattle.refusals.specs.Refusals.{is_refusal, first_of}
+use Rattle.refusals.specs.Refusals.{is_refusal}
 use Rattle.runs.specs.Run.{Run}
 use Rattle.sheet_reader.specs.Sheet.{sheet_run, sheet_name}
 use Rattle.sheet_writer.specs.RefusalLines.{refusal_text}

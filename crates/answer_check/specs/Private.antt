@@ -1,9 +1,8 @@
 -- What the functions that judge a list and put a verdict on a page ask and leave. No public contract cites this file.
-use Rattle.std.specs.Prelude.{ℕ, ◌+◌, ◌≤◌, ◌≡◌, Bool, true, false, cond, List, [], ◌∷◌, ◌++◌, length, take}
+use Rattle.std.specs.Prelude.{ℕ, ◌+◌, ◌≤◌, ◌≡◌, Result, Ok, Err, Bool, true, false, cond, List, [], ◌∷◌, ◌++◌, length, take}
 use Rattle.refusals.specs.declared.Verdict.{Verdict}
 use Rattle.refusals.specs.Refusals.{is_refusal, first_of}
 use Rattle.runs.specs.Run.{Run, stops_of}
-use Rattle.runs.specs.Alone.{zeros}
 use Rattle.runs.specs.Lists.{list_of}
 use Rattle.runs.specs.AnyHead.{judge_any_of, list_verdict_any}
 use Rattle.walk.specs.AnyHead.{priced_any_answer}
@@ -16,11 +15,6 @@ use Rattle.sheet_runs.specs.SheetRuns.{run_held}
 use Rattle.sheet_lists.specs.Form.{plan_froms, plan_tos}
 use Rattle.answer_plan.specs.declared.PlannedList.{PlannedList}
 use Rattle.answer_plan.specs.PlannedLists.{ListIn}
-use Rattle.answer_any.specs.AnyLists.{TextOfList}
-use Rattle.answer_check.specs.declared.Priced.{Priced}
-use Rattle.answer_check.specs.declared.PlanPage.{PlanPage}
-use Rattle.answer_check.specs.declared.VerdictPage.{VerdictPage}
-use Rattle.answer_check.specs.declared.CheckedPage.{CheckedPage}
 use Rattle.answer_check.specs.RunRules.{head_anywhere}
 use Rattle.answer_check.specs.Checking.{formed_yes, least_yes, least_no, walk_line, difference_lines, VerdictOf, verdict_on, room_checked}
 
@@ -34,10 +28,10 @@ pub record HandedIn (form : Verdict) (froms tos : List ℕ) (l : PlannedList) : 
 abbrev pub list_checks : Run → List ℕ → List ℕ → List Verdict
 list_checks run froms tos = judge_any_of run ∷ list_verdict_any run.head (stops_of run) froms tos ∷ []
 
--- What the pricer says of a run and a list, and the sum.
-pub record PricedList (run : Run) (froms tos : List ℕ) (r : Priced) : Type 0 where
-  pub verdict : r.verdict ≡ first_of (list_checks run froms tos)
-  pub sum : is_refusal (first_of (list_checks run froms tos)).refusal ≡ false → r.sum ≡ (priced_any_answer run (list_of froms tos)).sum
+-- What the pricer says of a run and a list: the sum, or the first refusal.
+abbrev pub PricedList : Run → List ℕ → List ℕ → Result ℕ Verdict → Type 0
+PricedList run froms tos (Ok sum) = (is_refusal (first_of (list_checks run froms tos)).refusal ≡ false) × (sum ≡ (priced_any_answer run (list_of froms tos)).sum)
+PricedList run froms tos (Err v) = (is_refusal v.refusal ≡ true) × (v ≡ first_of (list_checks run froms tos))
 
 abbrev pub first_refusal : Verdict → Verdict → Verdict
 first_refusal v w = cond (is_refusal v.refusal) v w
@@ -45,26 +39,6 @@ first_refusal v w = cond (is_refusal v.refusal) v w
 -- The first refusal of the run sheet, of a list's form and of the pricer.
 abbrev pub judged_list : SheetRun → PlannedList → Verdict
 judged_list r l = first_refusal r.verdict (first_refusal l.verdict (first_of (list_checks (run_held r) (take l.detours l.froms) (take l.detours l.tos))))
-
--- A sheet's run under another verdict.
-abbrev pub run_under : SheetRun → Verdict → SheetRun
-run_under r v =
-    record {
-      verdict = v;
-      files = r.files;
-      wants = r.wants;
-      head = r.head;
-      turn = r.turn;
-      starts = r.starts;
-      lengths = r.lengths;
-      aggregates = r.aggregates;
-      numbers = r.numbers;
-      counts = r.counts;
-    }
-
--- The plan sheet of a list, on a page.
-abbrev pub PageWritten : List ℕ → SheetRun → PlannedList → PlanPage → Type 0
-PageWritten sheet r l p = TextOfList sheet r l (zeros 7644) p.written p.text
 
 -- A run, a plan sheet's list and the least one, where nothing is refused but the list.
 pub record Checkable (name : List ℕ) (run : Run) (plan : List ℕ) (l least : PlannedList) : Type 0 where
@@ -87,17 +61,21 @@ abbrev pub difference_most : List ℕ → List ℕ → ℕ
 difference_most plan expected = (6 + length plan + 1) + (9 + length expected + 1)
 
 -- A text in the first bytes of a page, and one of which something is said.
-pub record PageOf (Says : List ℕ → Type 0) (p : VerdictPage) : Type 0 where
-  pub within : p.bytes ≤ length p.text
-  pub says : Says (take p.bytes p.text)
+pub record PageOf (Says : List ℕ → Type 0) (page : List ℕ) (n : ℕ) : Type 0 where
+  pub within : n ≤ length page
+  pub says : Says (take n page)
 
-abbrev pub PageIs : List ℕ → VerdictPage → Type 0
-PageIs text p = PageOf (λ t. t ≡ text) p
+abbrev pub PageIs : List ℕ → List ℕ → ℕ → Type 0
+PageIs text page n = PageOf (λ t. t ≡ text) page n
 
--- A plan sheet checked, by value: the first refusal, or the verdict's text; and the room that is left.
-pub record PlanChecked (sheet plan room : List ℕ) (p : CheckedPage) (room' : List ℕ) : Type 0 where
-  pub verdict : p.verdict ≡ verdict_on (length room) sheet plan
-  pub within : p.bytes ≤ length p.text
-  pub says : is_refusal (verdict_on (length room) sheet plan).refusal ≡ false
-      → VerdictOf head_anywhere (sheet_name sheet) (sheet_run sheet) plan (plan_froms plan) (plan_tos plan) (take p.bytes p.text)
+-- The first refusal of a run sheet and a plan sheet, or the verdict's text in the first bytes of a page.
+abbrev pub CheckTold : List ℕ → List ℕ → ℕ → Result ℕ Verdict → List ℕ → Type 0
+CheckTold sheet plan words (Ok n) page =
+    (is_refusal (verdict_on words sheet plan).refusal ≡ false)
+    × PageOf (VerdictOf head_anywhere (sheet_name sheet) (sheet_run sheet) plan (plan_froms plan) (plan_tos plan)) page n
+CheckTold sheet plan words (Err v) page = (is_refusal v.refusal ≡ true) × (v ≡ verdict_on words sheet plan)
+
+-- A plan sheet checked, and the room that is left.
+pub record PlanChecked (sheet plan room : List ℕ) (r : Result ℕ Verdict) (page' room' : List ℕ) : Type 0 where
+  pub told : CheckTold sheet plan (length room) r page'
   pub cleared : room' ≡ room_checked sheet plan room

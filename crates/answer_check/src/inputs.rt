@@ -12,7 +12,7 @@ use text_inputs::{Framed, part};
 const MOST_INPUT: usize = 32791;
 
 // Where the run sheet stands.
-fn frame_input(input: &[u8]) -> Framed
+fn frame_input(input: &[u8]) -> Option<Framed>
     ensures { result ≡ framed_input input.now }
 {
     text_inputs::frame(input, MOST_INPUT <= input.len())
@@ -34,7 +34,7 @@ fn refuse_input(out: &mut [u8]) -> u64
 pub fn price_input(input: &[u8], out: &mut [u8]) -> u64
     ensures { InputPriced input.now out.old result out.new }
 {
-    let Framed::Sheet { from, to } = frame_input(input) else {
+    let Some(Framed { from, to }) = frame_input(input) else {
         return refuse_input(out);
     };
     let end = input.len();
@@ -45,7 +45,7 @@ pub fn price_input(input: &[u8], out: &mut [u8]) -> u64
 pub fn check_input(input: &[u8], out: &mut [u8], room: &mut [u64]) -> u64
     ensures { InputChecked input.now out.old room.old result out.new room.new }
 {
-    let Framed::Sheet { from, to } = frame_input(input) else {
+    let Some(Framed { from, to }) = frame_input(input) else {
         return refuse_input(out);
     };
     let end = input.len();

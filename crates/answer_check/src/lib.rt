@@ -19,32 +19,3 @@ pub struct Difference {
     pub line: u64,
     pub start: usize,
 }
-
-// What the pricer says of a run and a list, and the list's sum, 0 on a refusal.
-#[derive(Clone, Copy)]
-struct Priced {
-    verdict: refusals::Verdict,
-    sum: u64,
-}
-
-// The plan sheet of a list, in the first bytes of a page that is never too short for it.
-#[derive(Clone, Copy)]
-struct PlanPage {
-    written: sheet_writer::Written,
-    text: [u8; 7644],
-}
-
-// A verdict's text, in the first bytes of a page. None is longer than 24,115 bytes.
-#[derive(Clone, Copy)]
-struct VerdictPage {
-    bytes: u64,
-    text: [u8; 24115],
-}
-
-// The first refusal of two sheets, or the verdict's text, in the first bytes of a page.
-#[derive(Clone, Copy)]
-struct CheckedPage {
-    verdict: refusals::Verdict,
-    bytes: u64,
-    text: [u8; 24115],
-}

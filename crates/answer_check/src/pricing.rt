@@ -4,14 +4,15 @@ ghost use Rattle.sheet_runs.specs.SheetRuns.{run_held};
 ghost use Rattle.sheet_lists.specs.Form.{list_froms, list_tos};
 ghost use Rattle.sheet_lists.specs.Reading.{list_form};
 ghost use Rattle.answer_check.specs.Pricing.{SheetPriced};
-ghost use Rattle.answer_check.specs.Private.{HandedIn, PricedList, first_refusal, judged_list};
+ghost use Rattle.answer_check.specs.Private.{HandedIn, PricedList, judged_list};
+ghost use Rattle.refusals.specs.Refusals.{checked};
 
-use crate::Priced;
 use answer_plan::PlannedList;
-use refusals::{Verdict, refused};
+use refusals::Verdict;
 use sheet_runs::{SheetRun, entries};
 
 // A list handed in, by value.
+// Stays: as read_plan beside the verdict; one over a reader that is passed in needs a bound and a clause longer than this.
 fn read_list(list: &[u8]) -> PlannedList
     ensures { HandedIn (list_form list.now) (list_froms list.now) (list_tos list.now) result }
 {
@@ -27,10 +28,10 @@ fn read_list(list: &[u8]) -> PlannedList
     }
 }
 
-// A run and a list, priced with rows for as many wants as a run can have.
+// The sum of a run and a list, or their first refusal, by rows for as many wants as a run can have.
 // Apart, so that its rows are on the stack once, and not below the verdict.
 #[inline(never)]
-pub(crate) fn priced(run: SheetRun, list: PlannedList) -> Priced
+pub(crate) fn priced(run: SheetRun, list: PlannedList) -> Result<u64, Verdict>
     ensures { PricedList (run_held run) (take list.detours list.froms) (take list.detours list.tos) result }
 {
     let starts = run.starts;
@@ -60,31 +61,18 @@ pub(crate) fn priced(run: SheetRun, list: PlannedList) -> Priced
         refusal,
         place: answer.place,
     };
-    Priced {
-        verdict,
-        sum: answer.sum,
-    }
-}
-
-// A verdict where it refuses, else another.
-pub(crate) fn first_refusal(first: Verdict, second: Verdict) -> Verdict
-    ensures { result ≡ first_refusal first second }
-{
-    if refused(first) {
-        return first;
-    }
-    second
+    verdict.told()?;
+    Ok(answer.sum)
 }
 
 // The first refusal of the run sheet, of the list's own form and of the pricer.
-fn judged(run: SheetRun, list: PlannedList) -> Verdict
-    ensures { result ≡ judged_list run list }
+fn judged(run: SheetRun, list: PlannedList) -> Result<(), Verdict>
+    ensures { result ≡ checked (judged_list run list) }
 {
-    let walked = priced(run, list);
-    let early = run.verdict;
-    let form = list.verdict;
-    let rules = walked.verdict;
-    first_refusal(early, first_refusal(form, rules))
+    run.verdict.told()?;
+    list.verdict.told()?;
+    priced(run, list)?;
+    Ok(())
 }
 
 // The plan sheet of a run sheet and a list, in the first bytes of a row: how many they are. A row shorter than the answer takes none of it, and the
@@ -94,8 +82,7 @@ pub fn price(sheet: &[u8], list: &[u8], out: &mut [u8]) -> u64
 {
     let run = sheet_runs::read_run(sheet);
     let handed = read_list(list);
-    let verdict = judged(run, handed);
-    if refused(verdict) {
+    if let Err(verdict) = judged(run, handed) {
         let lines = sheet_writer::write_refusal(verdict, out);
         return lines.bytes;
     }

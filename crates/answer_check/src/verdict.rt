@@ -4,29 +4,12 @@ ghost use Rattle.text_bytes.specs.Text.{is_text};
 ghost use Rattle.text_lines.specs.Lines.{line_of};
 ghost use Rattle.text_pages.specs.Printing.{Wrote, line, number_line};
 ghost use Rattle.answer_check.specs.Checking.{formed_no, first_difference, walk_line, difference_lines};
-ghost use Rattle.answer_check.specs.Private.{least_line_by, difference_most, verdict_by, PageIs};
+ghost use Rattle.answer_check.specs.Private.{least_line_by, difference_most, verdict_by};
 
-use crate::{Difference, VerdictPage};
+use crate::Difference;
 use text_bytes::same;
-use text_lines::{Keyed, find_value};
+use text_lines::find_value;
 use text_pages::{put, put_line, put_number_line};
-
-// Whether two rows of numbers are the same.
-pub(crate) fn same_rows(row: &[u64], wanted: &[u64]) -> bool
-    ensures { result ≡ is_text wanted.now row.now }
-{
-    if wanted.len() != row.len() {
-        return false;
-    }
-    let mut i: usize = 0;
-    while i < wanted.len() {
-        if wanted[i] != row[i] {
-            return false;
-        }
-        i += 1;
-    }
-    true
-}
 
 // The first line in which two texts differ.
 fn difference(plan: &[u8], expected: &[u8]) -> Difference
@@ -34,19 +17,14 @@ fn difference(plan: &[u8], expected: &[u8]) -> Difference
 {
     let mut line: u64 = 1;
     let mut start: usize = 0;
-    let mut i: usize = 0;
-    while i < plan.len() {
-        if expected.len() <= i {
+    for (i, byte) in plan.iter().enumerate() {
+        if expected.len() <= i || *byte != expected[i] {
             return Difference { line, start };
         }
-        if plan[i] != expected[i] {
-            return Difference { line, start };
-        }
-        if plan[i] == b'\n' {
+        if *byte == b'\n' {
             line += 1;
             start = i + 1;
         }
-        i += 1;
     }
     Difference { line, start }
 }
@@ -56,10 +34,10 @@ fn put_line_at(page: &mut [u8], at: usize, key: &[u8], text: &[u8], start: usize
     requires { at + (length key.now + length text.now + 1) ≤ length page.old }
     ensures { Wrote page.old at (line key.now (line_of (drop start text.now))) (length key.now + length text.now + 1) page.new result }
 {
-    let Keyed::Text { from, end } = find_value(text, start, b"") else {
+    let Some(value) = find_value(text, start, b"") else {
         return put_line(page, at, key, b"");
     };
-    put_line(page, at, key, &text[from..end])
+    put_line(page, at, key, &text[value.from..value.end])
 }
 
 // Whether a sheet is the one that is expected, byte for byte.
@@ -106,7 +84,14 @@ fn put_difference(page: &mut [u8], at: usize, plan: &[u8], expected: &[u8]) -> u
     put_line_at(page, next, b"expected=", expected, start)
 }
 
-fn put_verdict(page: &mut [u8], plan: &[u8], expected: &[u8], least: bool, by: u64) -> usize
+// The verdict on a well-formed list.
+pub(crate) fn put_verdict(
+    page: &mut [u8],
+    plan: &[u8],
+    expected: &[u8],
+    least: bool,
+    by: u64,
+) -> usize
     requires { 70 + difference_most plan.now expected.now ≤ length page.old }
     ensures { Wrote page.old 0 (verdict_by plan.now expected.now least by) (70 + difference_most plan.now expected.now) page.new result }
 {
@@ -114,34 +99,4 @@ fn put_verdict(page: &mut [u8], plan: &[u8], expected: &[u8], least: bool, by: u
     let least_at = put_walk(page, walk_at, plan, expected);
     let next = put_least(page, least_at, least, by);
     put_difference(page, next, plan, expected)
-}
-
-// The verdict on a list of which an entry breaks a rule.
-// Apart, so that its page is not on the stack of the other verdict.
-#[inline(never)]
-pub(crate) fn unformed_page(entry: u64) -> VerdictPage
-    ensures { PageIs (number_line formed_no entry) result }
-{
-    let mut text = [0u8; 24115];
-    let bytes = put_number_line(&mut text, 0, b"formed=no,", entry);
-    VerdictPage {
-        bytes: bytes as u64,
-        text,
-    }
-}
-
-// The verdict on a well-formed list.
-// Apart, so that its page is not on the stack below the planner and the plan sheet.
-#[inline(never)]
-pub(crate) fn verdict_page(plan: &[u8], expected: &[u8], least: bool, by: u64) -> VerdictPage
-    requires plan_len_bound { length plan.now ≤ 16384 }
-    requires expected_len_bound { length expected.now ≤ 7644 }
-    ensures { PageIs (verdict_by plan.now expected.now least by) result }
-{
-    let mut text = [0u8; 24115];
-    let bytes = put_verdict(&mut text, plan, expected, least, by);
-    VerdictPage {
-        bytes: bytes as u64,
-        text,
-    }
 }

@@ -7,10 +7,10 @@ use mathlib.Core.List.{List, []}
 use native.Mathlib.Omega.{arith}
 use native.Mathlib.Decide.{dec_lt}
 use lib.ListN.{length}
+use Rattle.std.specs.Prelude.{Option, Some, None}
 use Rattle.refusals.specs.declared.Verdict.{Verdict}
 use Rattle.refusals.specs.Refusals.{is_refusal, accepted}
 use Rattle.runs.proofs.Search.{true_or_false}
-use Rattle.walk.specs.declared.Answer.{Answer}
 use Rattle.planner.specs.Rows.{Rows}
 use Rattle.planner.proofs.Determined.{plan_determined}
 use Rattle.desk_tickets.specs.declared.Ticket.{Ticket}
@@ -83,13 +83,13 @@ module _ (len : ℕ) (tape : Tape) (day : Day) (room out : List ℕ) (r s : Answ
       (same.0, (p.1 ∙ sym q.1, same.1.1))
 
   -- Two results that fit the contract are equal.
-  pub answer_determined : (event : Event) → EventAnswered len tape day room out event r room' out' → EventAnswered len tape day room out event s room'' out''
+  pub answer_determined : (event : Option Event) → EventAnswered len tape day room out event r room' out' → EventAnswered len tape day room out event s room'' out''
       → (r ≡ s) × ((room' ≡ room'') × (out' ≡ out''))
-  answer_determined (Event.File o f c) p q =
+  answer_determined (Some (Event.File o f c)) p q =
       let filing : Filing = record { office = o; file = f; count = c; files = length tape.starts; lasts = day.lasts } in
       beside_once (filing_outcome filing (file_row len day.row filing)) p q
-  answer_determined (Event.Withdraw o n) p q =
+  answer_determined (Some (Event.Withdraw o n)) p q =
       let withdrawal : Withdrawal = record { office = o; number = n; lasts = day.lasts } in
       beside_once (withdrawal_outcome withdrawal (withdraw_row len day.row withdrawal)) p q
-  answer_determined (Event.Board h t) p q = boarding_once (record { head = h; turn = t; lasts = day.lasts }) p q
-  answer_determined Event.Bad p q = refuses_once day (record { verdict = accepted; next = day; text = []; left = room }) room out r s room' room'' out' out'' _ p q
+  answer_determined (Some (Event.Board h t)) p q = boarding_once (record { head = h; turn = t; lasts = day.lasts }) p q
+  answer_determined None p q = refuses_once day (record { verdict = accepted; next = day; text = []; left = room }) room out r s room' room'' out' out'' _ p q

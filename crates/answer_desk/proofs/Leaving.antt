@@ -1,7 +1,7 @@
 -- Who leaves by a boarding that is accepted, and the text by their places.
 use Prim.Native.Nat.{ℕ, ◌+◌, ◌*◌, ◌≤◌, min}
-use mathlib.Core.Path.{◌≡◌, refl, sym, ap, ◌∙◌, subst}
-use mathlib.Core.Bool.{Bool, true, false, true≢false}
+use mathlib.Core.Path.{◌≡◌, sym, ap, ◌∙◌, subst}
+use mathlib.Core.Bool.{false, true≢false}
 use mathlib.Core.Logic.{⊎_elim}
 use mathlib.Core.List.{List, ◌++◌, map, append_assoc}
 use native.Mathlib.Omega.{arith}
@@ -21,7 +21,7 @@ use Rattle.desk_tickets.proofs.Storing.{accepted_sound}
 use Rattle.desk_boardings.specs.declared.Boarding.{Boarding}
 use Rattle.desk_boardings.specs.declared.Boarded.{Boarded}
 use Rattle.desk_boardings.specs.declared.BoardedRow.{BoardedRow}
-use Rattle.desk_boardings.specs.Boarders.{share_one, share_two, boarders}
+use Rattle.desk_boardings.specs.Boarders.{share_one, share_two}
 use Rattle.desk_boardings.specs.Boardings.{Tape, Boards, taken_of}
 use Rattle.desk_boardings.proofs.Who.{share_within, shares_fit, front_one, front_two}
 use Rattle.answer_desk.specs.declared.Reads.{Reads}

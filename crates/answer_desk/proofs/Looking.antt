@@ -1,20 +1,20 @@
 -- The place of a file looked for from the front; and the lines of tickets, one behind the other.
-use Prim.Native.Nat.{ℕ, zero, suc, ◌+◌, ◌≤◌, ◌<◌}
-use mathlib.Core.Path.{◌≡◌, refl, sym, ap, ◌∙◌, subst}
+use Prim.Native.Nat.{ℕ, suc, ◌+◌, ◌-◌, ◌≤◌, ◌<◌}
+use mathlib.Core.Path.{◌≡◌, refl, sym, ap, ◌∙◌}
 use mathlib.Core.Bool.{true, false}
 use mathlib.Core.List.{List, [], ◌∷◌, ◌++◌, append_assoc}
 use native.Mathlib.Omega.{arith}
 use native.Mathlib.Numerals.{add-one}
 use lib.Dec.{eqb}
 use lib.ListN.{length, get_or, take, drop, drop_of_length-le, length-drop}
-use lib.Seq.{drop-cons, get_or-take, get_or-drop, length-take-le}
+use lib.Seq.{drop-cons, get_or-take, length-take-le}
 use Rattle.desk_tickets.specs.declared.Ticket.{Ticket}
 use Rattle.desk_tickets.specs.WaitingTable.{no_ticket}
-use Rattle.text_pages.specs.Printing.{pair_line, pair_lines, Wrote}
+use Rattle.text_pages.specs.Printing.{pair_line, pair_lines}
 use Rattle.text_pages.proofs.Pages.{pairs_left, pairs_over}
 use Rattle.sheet_writer.specs.PlanSheet.{detour_key}
 use Rattle.answer_desk.specs.declared.Reads.{Reads}
-use Rattle.answer_desk.specs.Answers.{place_in, value_for, ticket_line, closed_line, closed_lines}
+use Rattle.answer_desk.specs.Answers.{place_in, closed_line, closed_lines}
 
 place_here : (file n : ℕ) (ns : List ℕ) → eqb n file ≡ true → place_in file (n ∷ ns) ≡ 0
 unfolding place_in
@@ -34,9 +34,6 @@ pub record Sought (file : ℕ) (ns : List ℕ) (i : ℕ) : Type 0 where
   pub so : place_in file ns ≡ i + place_in file (drop i ns)
 
 module _ (file : ℕ) (ns : List ℕ) where
-  pub sought_none : Sought file ns 0
-  sought_none = record { within = omega arith; so = omega arith }
-
   at_place : (i : ℕ) → i < length ns → place_in file (drop i ns) ≡ place_in file (get_or ns i 0 ∷ drop (suc i) ns)
   at_place i l = ap (place_in file) (drop-cons ns i 0 l)
 
@@ -66,15 +63,6 @@ unfolding closed_lines
 closed_both reads [] b = refl
 closed_both reads (t ∷ a) b = rw (closed_both reads a b) (sym (append_assoc (closed_line reads t) (closed_lines reads a) (closed_lines reads b)))
 
--- A ticket's line with what stands for its file.
-pub closed_wrote : (reads : Reads) (t : Ticket) (p time leg : ℕ) → p ≡ place_in t.file reads.numbers → time ≡ get_or reads.times p 0 → leg ≡ get_or reads.legs p 0
-    → (page : List ℕ) (at : ℕ) (page' : List ℕ) (next : ℕ) → Wrote page at (ticket_line t time leg) 133 page' next → Wrote page at (closed_line reads t) 133 page' next
-closed_wrote reads t p time leg p-is time-is leg-is page at page' next w =
-    let time-so : time ≡ value_for t.file reads.numbers reads.times = time-is ∙ ap (λ q. get_or reads.times q 0) p-is in
-    let leg-so : leg ≡ value_for t.file reads.numbers reads.legs = leg-is ∙ ap (λ q. get_or reads.legs q 0) p-is in
-    subst (λ x. Wrote page at x 133 page' next)
-    (ap (λ x. ticket_line t x leg) time-so ∙ ap (λ x. ticket_line t (value_for t.file reads.numbers reads.times) x) leg-so) w
-
 -- The lines of the first n of eight detours that are left.
 module _ (n : ℕ) (froms tos : List ℕ) (few : n ≤ 8) (f : length froms ≡ 8) (t : length tos ≡ 8) (i : ℕ) where
   front : length (take n froms) ≡ n
@@ -99,11 +87,16 @@ module _ (reads : Reads) (row : List Ticket) (all : length row ≡ 32) (first n 
   tickets_long_here : length (take n (drop first row)) ≡ n
   tickets_long_here = length-take-le n (drop first row) (rw (length-drop first row, all) (omega arith))
 
+  -- The code's own part of the row.
+  same : first + n - first ≡ n
+  same = omega arith
+
+  pub part_long : length (take (first + n - first) (drop first row)) ≡ n
+  part_long = rw same tickets_long_here
+
   pub tickets_left : i < n
-      → closed_lines reads (drop i (take n (drop first row))) ≡ closed_line reads (get_or row (first + i) no_ticket) ++ closed_lines reads (drop (i + 1) (take n (drop first row)))
-  tickets_left l =
-      closed_left reads (take n (drop first row)) i (rw tickets_long_here l) (get_or row (first + i) no_ticket)
-      (sym (get_or-take n (drop first row) i no_ticket l ∙ get_or-drop first row i no_ticket))
+      → closed_lines reads (drop i (take n (drop first row))) ≡ closed_line reads (get_or (take (first + n - first) (drop first row)) i no_ticket) ++ closed_lines reads (drop (i + 1) (take n (drop first row)))
+  tickets_left l = rw same (closed_left reads (take n (drop first row)) i (rw tickets_long_here l) (get_or (take n (drop first row)) i no_ticket) refl)
 
   pub tickets_over : n ≤ i → closed_lines reads (drop i (take n (drop first row))) ≡ []
   tickets_over l = closed_over reads (take n (drop first row)) i (rw tickets_long_here l)

@@ -1,18 +1,18 @@
 -- A boarding on a row that takes its text, and one whose text is made beforehand.
-use Prim.Native.Nat.{ℕ, ◌≤◌, ◌<◌, min}
-use mathlib.Core.Path.{◌≡◌, refl, sym, ap, ◌∙◌, subst}
-use mathlib.Core.Bool.{Bool, true, false, true≢false}
-use mathlib.Core.Logic.{◌⊎◌, inl, inr, ⊎_elim}
+use Prim.Native.Nat.{ℕ, ◌≤◌, min}
+use mathlib.Core.Path.{◌≡◌, refl, sym, ap, ◌∙◌}
+use mathlib.Core.Bool.{true, false, true≢false}
+use mathlib.Core.Logic.{⊎_elim}
 use mathlib.Core.List.{List}
 use native.Mathlib.Omega.{arith}
+use Rattle.std.specs.Prelude.{Ok, Err}
 use lib.ListN.{length}
-use Rattle.refusals.specs.declared.Refusal.TheVariants.{ShortRow}
 use Rattle.refusals.specs.declared.Verdict.{Verdict}
-use Rattle.refusals.specs.Refusals.{is_refusal}
+use Rattle.refusals.specs.Refusals.{is_refusal, checked}
+use Rattle.refusals.proofs.Checked.{passed, stopped}
 use Rattle.refusals.proofs.Verdicts.{refuses}
 use Rattle.runs.proofs.Search.{true_or_false}
 use Rattle.walk.specs.Price.{priced_answer}
-use Rattle.planner.specs.Plan.{plan_verdict}
 use Rattle.planner.specs.Rows.{Rows}
 use Rattle.sheet_writer.specs.declared.Written.{Written}
 use Rattle.desk_tickets.specs.declared.Ticket.{Ticket}
@@ -40,22 +40,23 @@ refused_rows len tape row b before after r fits e =
     (true_or_false (refuses (records_verdict len row b.lasts)))
 
 module _ (len : ℕ) (tape : Tape) (day : Day) (b : Boarding) (room out : List ℕ) (done : BoardedRow) (rows : Rows) (boards : Boards len tape day.row b (rows_lent room) done rows)
-    (f : Bool) (is : f ≡ is_refusal done.boarded.answer.refusal) (r : Answered) where
-  pub now_refused : f ≡ true → r ≡ refused_answer day (verdict_in done.boarded.answer) → BoardedNow len tape day b room out r rows.room out
-  now_refused e says =
-      let yes : is_refusal done.boarded.answer.refusal ≡ true = sym is ∙ e in
+    (r : Answered) where
+  pub now_refused : (v : Verdict) → Err v ≡ checked (verdict_in done.boarded.answer) → r ≡ refused_answer day v → BoardedNow len tape day b room out r rows.room out
+  now_refused v said says =
+      let s = stopped _ v said in
+      let yes : is_refusal done.boarded.answer.refusal ≡ true = s.so in
       record {
         done = done;
         rows = rows;
         boards = boards;
-        refused = λ _. record { says = says; same_room = ap (λ (x : Rows). x.room) (refused_rows len tape day.row b (rows_lent room) rows done boards yes); same_row = refl };
+        refused = λ _. record { says = says ∙ ap (refused_answer day) (sym s.is); same_room = ap (λ (x : Rows). x.room) (refused_rows len tape day.row b (rows_lent room) rows done boards yes); same_row = refl };
         most = λ n. absurd (true≢false (sym yes ∙ n));
         told = λ n _. absurd (true≢false (sym yes ∙ n));
       }
 
-  pub now_told : f ≡ false → (w : Written) (out' : List ℕ) → TextSaid most_text (boarding_text day.row done rows) out w out' → r ≡ answered_by day (boarded_day done) w → BoardedNow len tape day b room out r rows.room out'
-  now_told e w out' said says =
-      let no : is_refusal done.boarded.answer.refusal ≡ false = sym is ∙ e in
+  pub now_told : (u : Unit) → Ok u ≡ checked (verdict_in done.boarded.answer) → (w : Written) (out' : List ℕ) → TextSaid most_text (boarding_text day.row done rows) out w out' → r ≡ answered_by day (boarded_day done) w → BoardedNow len tape day b room out r rows.room out'
+  now_told u passes w out' said says =
+      let no : is_refusal done.boarded.answer.refusal ≡ false = passed _ u passes in
       record {
         done = done;
         rows = rows;
@@ -82,25 +83,6 @@ rehearsed len tape day b mine own r mine' own' words now size takes room is =
     }
 
 module _ (len : ℕ) (tape : Tape) (day : Day) (b : Boarding) (room out : List ℕ) (n : ℕ) (needs : Needed (length out) len tape day b (length room) n) (r : Answered) where
-  -- 8: nothing has been done in the lent rows.
-  pub board_short : length out < n → r ≡ refused_answer day (record { refusal = ShortRow; place = 0 }) → BoardingAnswered len tape day b room out r room out
-  board_short l says = ⊎_elim (λ (h : (n ≡ 0) × (most_text ≤ length out)). absurd (omega (arith, h.0))) (λ (h : Rehearsed len tape day b (length room) n). by_text (h room refl)) needs
-    where
-      by_text : SaysSo len tape day b room n → BoardingAnswered len tape day b room out r room out
-      by_text s =
-          let not_none : is_refusal s.done.boarded.answer.refusal ≡ true → ⊥ = λ y. omega (arith, s.none y) in
-          record {
-            done = s.done;
-            rows = s.rows;
-            boards = s.boards;
-            answers = record {
-              refused = λ y. absurd (not_none y);
-              most = λ e. omega (arith, s.some e, s.most e);
-              short = λ _ _. record { says = says; same_room = refl; same_row = refl };
-              told = λ e fits. absurd (omega (arith, s.some e, fits));
-            };
-          }
-
   -- Else the text goes into the row.
   text_fits : (room' out' : List ℕ) → n ≤ length out → (now : BoardedNow len tape day b room out r room' out') → is_refusal now.done.boarded.answer.refusal ≡ false
       → length (boarding_text day.row now.done now.rows) ≤ length out

@@ -1,8 +1,8 @@
 -- A boarding in another room: eight wants at most, with 1,024 reads, ask for at most 65,600 words; so a room of that many words, or of as many as the other
 -- has, is as good as the other.
-use Prim.Native.Nat.{ℕ, ◌+◌, ◌*◌, ◌≤◌, ◌<◌, min}
-use mathlib.Core.Path.{◌≡◌, refl, sym, ap, ◌∙◌}
-use mathlib.Core.Bool.{Bool, true, false, true≢false}
+use Prim.Native.Nat.{ℕ, ◌+◌, ◌*◌, ◌≤◌, min}
+use mathlib.Core.Path.{◌≡◌, sym, ap, ◌∙◌}
+use mathlib.Core.Bool.{true, false, true≢false}
 use mathlib.Core.Logic.{⊎_elim}
 use mathlib.Core.List.{List, [], ◌∷◌, ◌++◌}
 use native.Mathlib.Omega.{arith}
@@ -12,7 +12,6 @@ use lib.Dec.{ltb}
 use lib.ListN.{length, take, drop, replicate, length-append, length-map}
 use lib.Seq.{length-take-le}
 use borrow.Author.Tests.{lt-ltb, le-ltb}
-use Rattle.refusals.specs.Refusals.{is_refusal}
 use Rattle.refusals.proofs.Verdicts.{refuses}
 use Rattle.runs.specs.Run.{Run, total, stops_of}
 use Rattle.runs.specs.Judging.{judge_of}
@@ -20,13 +19,13 @@ use Rattle.runs.proofs.Judged.{accepted_run}
 use Rattle.runs.proofs.Search.{true_or_false}
 use Rattle.runs.proofs.Stops.{stops_few}
 use Rattle.walk.specs.Price.{refusal_answer}
-use Rattle.planner.specs.Plan.{plan_verdict, room_for, rows_with, Plans}
+use Rattle.planner.specs.Plan.{plan_verdict, room_for, Plans}
 use Rattle.planner.specs.Rows.{Rows, rows_of}
 use Rattle.desk_tickets.specs.declared.Ticket.{Ticket}
 use Rattle.desk_tickets.specs.WaitingTable.{waiting, records_verdict}
 use Rattle.desk_boardings.specs.declared.Boarding.{Boarding}
 use Rattle.desk_boardings.specs.declared.BoardedRow.{BoardedRow}
-use Rattle.desk_boardings.specs.Boarders.{Want, want_of, add_want, with_wants, wants_of, file_numbers, share_one, share_two, boarders}
+use Rattle.desk_boardings.specs.Boarders.{Want, want_of, add_want, with_wants, wants_of, share_one, share_two, boarders}
 use Rattle.desk_boardings.specs.Boardings.{Tape, board_run, Boards}
 use Rattle.desk_boardings.proofs.Adding.{add_longer}
 use Rattle.desk_boardings.proofs.Who.{share_within, shares_fit}

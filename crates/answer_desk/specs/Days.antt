@@ -1,6 +1,6 @@
 -- What is answered to an event, for every input: the day afterwards, the text in the lent row, and the working room. The refusals of an event are its own,
 -- or 11 for a line that is none; last comes 8, for a row shorter than the text. A refusal changes nothing.
-use Rattle.std.specs.Prelude.{ℕ, ◌≤◌, ◌<◌, ◌≡◌, true, false, cond, List, [], ◌++◌, length, drop, replicate}
+use Rattle.std.specs.Prelude.{ℕ, ◌≤◌, ◌<◌, ◌≡◌, true, false, cond, List, ◌++◌, length, drop, replicate, Option, Some, None}
 use Rattle.refusals.specs.declared.Refusal.TheVariants.{ShortRow, BadLine}
 use Rattle.refusals.specs.declared.Verdict.{Verdict}
 use Rattle.refusals.specs.Refusals.{is_refusal, accepted}
@@ -117,11 +117,11 @@ pub record BoardingAnswered (len : ℕ) (tape : Tape) (day : Day) (b : Boarding)
   pub answers : AnswersEvent day (boarding_outcome day.row done rows) room out r room' out'
 
 -- The answer to an event. Only a boarding works in the room. A line that is none is refused by 11.
-abbrev pub EventAnswered : ℕ → Tape → Day → List ℕ → List ℕ → Event → Answered → List ℕ → List ℕ → Type 0
-EventAnswered len tape day room out (Event.File office file count) r room' out' =
+abbrev pub EventAnswered : ℕ → Tape → Day → List ℕ → List ℕ → Option Event → Answered → List ℕ → List ℕ → Type 0
+EventAnswered len tape day room out (Some (Event.File office file count)) r room' out' =
     FilingAnswered len day (record { office = office; file = file; count = count; files = length tape.starts; lasts = day.lasts }) out r out' × (room' ≡ room)
-EventAnswered len tape day room out (Event.Withdraw office number) r room' out' =
+EventAnswered len tape day room out (Some (Event.Withdraw office number)) r room' out' =
     WithdrawalAnswered len day (record { office = office; number = number; lasts = day.lasts }) out r out' × (room' ≡ room)
-EventAnswered len tape day room out (Event.Board head turn) r room' out' =
+EventAnswered len tape day room out (Some (Event.Board head turn)) r room' out' =
     BoardingAnswered len tape day (record { head = head; turn = turn; lasts = day.lasts }) room out r room' out'
-EventAnswered len tape day room out Event.Bad r room' out' = Refuses (record { refusal = BadLine; place = 0 }) day room out r room' out'
+EventAnswered len tape day room out None r room' out' = Refuses (record { refusal = BadLine; place = 0 }) day room out r room' out'

@@ -4,53 +4,35 @@ ghost use Rattle.text_lines.specs.Lines.{line_of};
 ghost use Rattle.answer_desk.specs.Events.{event_of, pair_event_of};
 
 use crate::Event;
-use text_lines::{PairLine, TripleLine};
+use text_lines::{pair_line, triple_line};
 
-// A withdrawal or a boarding.
-fn read_pair_event(event: &[u8]) -> Event
+// A withdrawal or a boarding, if it is one.
+fn read_pair_event(event: &[u8]) -> Option<Event>
     ensures { result ≡ pair_event_of (line_of event.now) }
 {
-    if let PairLine::Both {
-        first,
-        second,
-        next: _,
-    } = text_lines::pair_line(event, 0, b"withdraw=")
-    {
-        return Event::Withdraw {
-            office: first,
-            number: second,
-        };
+    if let Some(line) = pair_line(event, 0, b"withdraw=") {
+        return Some(Event::Withdraw {
+            office: line.first,
+            number: line.second,
+        });
     }
-    if let PairLine::Both {
-        first,
-        second,
-        next: _,
-    } = text_lines::pair_line(event, 0, b"board=")
-    {
-        return Event::Board {
-            head: first,
-            turn: second,
-        };
-    }
-    Event::Bad
+    let line = pair_line(event, 0, b"board=")?;
+    Some(Event::Board {
+        head: line.first,
+        turn: line.second,
+    })
 }
 
-// What the first line of some bytes holds.
-pub fn read_event(event: &[u8]) -> Event
+// What the first line of some bytes holds, if it is an event.
+pub fn read_event(event: &[u8]) -> Option<Event>
     ensures { result ≡ event_of (line_of event.now) }
 {
-    if let TripleLine::All {
-        first,
-        second,
-        third,
-        next: _,
-    } = text_lines::triple_line(event, 0, b"file=")
-    {
-        return Event::File {
-            office: first,
-            file: second,
-            count: third,
-        };
+    if let Some(line) = triple_line(event, 0, b"file=") {
+        return Some(Event::File {
+            office: line.first,
+            file: line.second,
+            count: line.third,
+        });
     }
     read_pair_event(event)
 }

@@ -4,8 +4,7 @@
 // the answer, not the room.
 #![tactic(auto)]
 
-ghost use Rattle.std.specs.Prelude.{◌≡◌, min};
-ghost use Rattle.desk_tickets.specs.WaitingTable.{no_ticket};
+ghost use Rattle.std.specs.Prelude.{◌≡◌};
 ghost use Rattle.desk_boardings.specs.Boardings.{tape_at};
 ghost use Rattle.text_lines.specs.Lines.{line_of};
 ghost use Rattle.answer_desk.specs.Events.{event_of};
@@ -13,8 +12,8 @@ ghost use Rattle.answer_desk.specs.Days.{morning_day, FilingAnswered, Withdrawal
 ghost use Rattle.answer_desk.specs.Private.{BoardedNow, Rehearsed, Needed};
 
 use desk_boardings::Boarding;
-use desk_tickets::{Filing, Lasts, Ticket, Withdrawal};
-use refusals::{Refusal, Verdict, refused};
+use desk_tickets::{Filing, Lasts, NO_TICKET, Ticket, Withdrawal};
+use refusals::{Refusal, Verdict};
 use sheet_writer::Written;
 
 mod events;
@@ -29,6 +28,7 @@ pub const MOST_TEXT: usize = 2677;
 pub const MOST_ROOM: usize = 65600;
 
 // The waiting table and the last numbers given.
+// Stays: rows of an array, since the record is copied, and the house works without a heap.
 #[derive(Clone, Copy)]
 pub struct Day {
     pub row: [Ticket; 32],
@@ -41,10 +41,10 @@ pub enum Event {
     File { office: u64, file: u64, count: u64 },
     Withdraw { office: u64, number: u64 },
     Board { head: u64, turn: u64 },
-    Bad,
 }
 
 // The wants of a run, in the first entries of three rows: their files, and when and by which leg each is read.
+// Stays: rows of an array, since the record is copied, and the house works without a heap.
 #[derive(Clone, Copy)]
 pub struct Reads {
     pub numbers: [u64; 8],
@@ -53,6 +53,7 @@ pub struct Reads {
 }
 
 // What is answered to an event: the day afterwards, the verdict, and how many bytes the text has. On a refusal the day as it was, and no byte.
+// Stays: one record and no Result, since RefusedEventChangesNothing in the promises reads the day and the bytes on a refusal too.
 #[derive(Clone, Copy)]
 pub struct Answered {
     pub day: Day,
@@ -60,25 +61,12 @@ pub struct Answered {
     pub bytes: u64,
 }
 
-// An empty place.
-fn nobody() -> Ticket
-    ensures { result ≡ no_ticket }
-{
-    Ticket {
-        office: 0,
-        file: 0,
-        count: 0,
-        number: 0,
-    }
-}
-
 // A day's beginning: nobody waits and no number is given.
 pub fn morning() -> Day
     ensures { result ≡ morning_day }
 {
-    let none = nobody();
     Day {
-        row: [none; 32],
+        row: [NO_TICKET; 32],
         lasts: Lasts { one: 0, two: 0 },
     }
 }
@@ -103,15 +91,12 @@ fn answer_by(day: Day, next: Day, written: Written) -> Answered
         refusal: kind,
         place: written.place,
     };
-    if refused(verdict) {
+    if let Err(verdict) = verdict.told() {
         return refuse(day, verdict);
     }
     Answered {
         day: next,
-        verdict: Verdict {
-            refusal: Refusal::Accepted,
-            place: 0,
-        },
+        verdict: Verdict::accepted(),
         bytes: written.bytes,
     }
 }
@@ -122,8 +107,7 @@ fn file(len: usize, day: Day, filing: Filing, out: &mut [u8]) -> Answered
     let row = day.row;
     let done = desk_tickets::file_in(len, row, filing);
     let filed = done.filed;
-    let verdict = filed.verdict;
-    if refused(verdict) {
+    if let Err(verdict) = filed.verdict.told() {
         return refuse(day, verdict);
     }
     let written = pages::say_pair(b"filed=", filing.office, filed.number, out);
@@ -132,14 +116,14 @@ fn file(len: usize, day: Day, filing: Filing, out: &mut [u8]) -> Answered
     answer_by(day, Day { row: next, lasts }, written)
 }
 
+// Stays: as `file` with the answer of another call, whose fields have other names; one over both takes what it says of each as seven parameters.
 fn withdraw(len: usize, day: Day, withdrawal: Withdrawal, out: &mut [u8]) -> Answered
     ensures { WithdrawalAnswered len day withdrawal out.old result out.new }
 {
     let row = day.row;
     let done = desk_tickets::withdraw_in(len, row, withdrawal);
     let withdrawn = done.withdrawn;
-    let verdict = withdrawn.verdict;
-    if refused(verdict) {
+    if let Err(verdict) = withdrawn.verdict.told() {
         return refuse(day, verdict);
     }
     let written = pages::say_pair(b"withdrawn=", withdrawal.office, withdrawal.number, out);
@@ -177,7 +161,7 @@ fn board_now(
         refusal: kind,
         place: answer.place,
     };
-    if refused(verdict) {
+    if let Err(verdict) = verdict.told() {
         return refuse(day, verdict);
     }
     let wants = boarded.wants;
@@ -191,12 +175,6 @@ fn board_now(
     let next = done.row;
     let lasts = boarded.lasts;
     answer_by(day, Day { row: next, lasts }, written)
-}
-
-fn lesser(a: usize, b: usize) -> usize
-    ensures { result ≡ min a b }
-{
-    if a < b { a } else { b }
 }
 
 // The most room that a boarding uses. A long row comes from a function of its own: where it is made and lent in one, the check counts its entries one
@@ -219,7 +197,7 @@ fn rehearse(
 {
     let mut room = empty_room();
     let mut out = [0u8; 2677];
-    let n = lesser(words, MOST_ROOM);
+    let n = words.min(MOST_ROOM);
     let told = board_now(
         len,
         day,
@@ -301,7 +279,16 @@ pub fn answer(
     ensures { EventAnswered len (tape_at starts lengths aggregates) day room.old out.old (event_of (line_of event.now)) result room.new out.new }
 {
     let lasts = day.lasts;
-    match read_event(event) {
+    let Some(read) = read_event(event) else {
+        return refuse(
+            day,
+            Verdict {
+                refusal: Refusal::BadLine,
+                place: 0,
+            },
+        );
+    };
+    match read {
         Event::File {
             office,
             file: number,
@@ -328,12 +315,5 @@ pub fn answer(
             let boarding = Boarding { head, turn, lasts };
             board(len, day, boarding, starts, lengths, aggregates, room, out)
         }
-        Event::Bad => refuse(
-            day,
-            Verdict {
-                refusal: Refusal::BadLine,
-                place: 0,
-            },
-        ),
     }
 }

@@ -26,24 +26,19 @@ pub(crate) fn say_pair(key: &[u8], first: u64, second: u64, out: &mut [u8]) -> W
 fn place_in(file: u64, numbers: [u64; 8]) -> usize
     ensures { result ≡ place_in file numbers }
 {
-    let mut i: usize = 0;
-    while i < 8 {
-        if numbers[i] == file {
+    for (i, number) in numbers.iter().enumerate() {
+        if *number == file {
             return i;
         }
-        i += 1;
     }
-    i
+    8
 }
 
 // An entry of a row, 0 behind its end.
 fn entry(row: [u64; 8], i: usize) -> u64
     ensures { result ≡ get_or row i 0 }
 {
-    if i < 8 {
-        return row[i];
-    }
-    0
+    row.get(i).copied().unwrap_or(0)
 }
 
 // A ticket's line. None is longer than 133 bytes.
@@ -86,11 +81,8 @@ fn put_tickets(
     ensures { Wrote page.old at (closed_lines reads (take n (drop first row))) (n * 133) page.new result }
 {
     let mut next = at;
-    let mut i: usize = 0;
-    while i < n {
-        let t = row[first + i];
-        next = put_closed(page, next, t, reads);
-        i += 1;
+    for t in &row[first..first + n] {
+        next = put_closed(page, next, *t, reads);
     }
     next
 }
@@ -102,10 +94,8 @@ fn put_detours(page: &mut [u8], at: usize, froms: [u64; 8], tos: [u64; 8], n: us
     ensures { Wrote page.old at (pair_lines detour_key (take n froms) (take n tos)) (n * 49) page.new result }
 {
     let mut next = at;
-    let mut i: usize = 0;
-    while i < n {
+    for i in 0..n {
         next = put_pair_line(page, next, b"detour=", froms[i], tos[i]);
-        i += 1;
     }
     next
 }
@@ -125,10 +115,7 @@ fn put_top(page: &mut [u8], taken: Taken, answer: Answer) -> usize
 fn up_to_eight(n: u64) -> usize
     ensures { result ≡ min n 8 }
 {
-    if n < 8 {
-        return n as usize;
-    }
-    8
+    n.min(8) as usize
 }
 
 // The whole text of a boarding that is accepted.

@@ -8,10 +8,11 @@ ghost use Rattle.answer_field.specs.Field.{field_checks, SheetFielded};
 ghost use Rattle.answer_field.specs.Private.{RowsFielded};
 
 use answer_plan::PlannedList;
-use refusals::{Verdict, refused};
+use refusals::Verdict;
 use sheet_runs::{SheetRun, entries};
 
 // The plan of a run, with times and legs for eight wants.
+// Stays: as in answer_plan with a planner of other parameters, so that no bound holds both.
 fn plan_rows(
     starts: &[u64],
     lengths: &[u64],
@@ -45,11 +46,11 @@ fn plan_rows(
 }
 
 // The least list of a sheet's run.
+// Stays: as in answer_plan over another planner; one over a planner that is passed in names its parameters in a bound and in a clause.
 fn list_run(run: SheetRun) -> PlannedList
     ensures { RunListed field_checks run result }
 {
-    let verdict = run.verdict;
-    if refused(verdict) {
+    if let Err(verdict) = run.verdict.told() {
         return PlannedList {
             verdict,
             detours: 0,

@@ -1,6 +1,6 @@
 -- An input that is put together as described is taken apart into what it was put together from.
 use Prim.Native.Nat.{ℕ, ◌<◌, ◌^◌}
-use mathlib.Core.Path.{◌≡◌, refl, ap, sym, ◌∙◌}
+use mathlib.Core.Path.{◌≡◌, refl, ap, ◌∙◌}
 use mathlib.Core.Bool.{true, false}
 use mathlib.Core.List.{List, [], ◌++◌, append-nil}
 use native.Mathlib.Omega.{arith}
@@ -10,12 +10,11 @@ use borrow.Author.Tests.{le-leb}
 use Rattle.text_bytes.specs.Text.{line_feed, has, all_of, between, is_name, is_name_byte, decimal}
 use Rattle.text_bytes.proofs.Bytes.{and_true_both}
 use Rattle.text_bytes.proofs.Decimals.{has_none, decimal_without}
-use Rattle.text_lines.specs.Lines.{line_of}
 use Rattle.text_pages.specs.Printing.{number_line}
 use Rattle.sheet_reader.specs.Lines.{tape_key, is_tape_line}
 use Rattle.sheet_writer.proofs.Reread.{line_first, line_behind_lem, key_begins, key_value, number_back, value_back}
 use Rattle.answer_ltfs.specs.Input.{label_key, index_key, is_counted, counted_text, after_counted, is_framed}
-use Rattle.answer_ltfs.specs.Framed.{input_text, InputTakenApart}
+use Rattle.answer_ltfs.specs.Framed.{InputTakenApart}
 
 -- A counted text, in front of what follows it.
 record CountedBack (key text rest input : List ℕ) : Type 0 where

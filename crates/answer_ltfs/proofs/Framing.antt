@@ -1,12 +1,13 @@
 -- An input taken apart and its answer put together: where the texts stand, what the checks say, and the two rows that are left.
 use Prim.Native.Nat.{ℕ, zero, suc, ◌+◌, ◌-◌, ◌≤◌, ◌<◌}
+use Rattle.std.specs.Prelude.{Option, Some, None}
 use mathlib.Core.Path.{◌≡◌, refl, ap, sym, ◌∙◌, subst}
-use mathlib.Core.Bool.{Bool, true, false, cond, not, ◌&&◌, ◌||◌, and-false, or-true}
+use mathlib.Core.Bool.{Bool, true, false, not, and-false, or-true}
 use mathlib.Core.List.{List, [], ◌∷◌, ◌++◌}
 use native.Mathlib.Omega.{arith}
-use lib.ListN.{length, take, drop, length-append, length-drop}
+use lib.ListN.{length, take, drop, length-drop}
 use lib.Seq.{take_all, take_at, drop-drop}
-use lib.Dec.{leb, ltb}
+use lib.Dec.{ltb}
 use borrow.Author.Tests.{le-leb, lt-leb, lt-ltb, le-ltb}
 use Rattle.refusals.specs.declared.Refusal.TheVariants.{BadName, BadText}
 use Rattle.refusals.specs.declared.Verdict.{Verdict}
@@ -19,7 +20,7 @@ use Rattle.text_lines.specs.Found.{Passed, NumberLineFound}
 use Rattle.text_pages.specs.Printing.{number_line, Wrote, Put}
 use Rattle.text_pages.proofs.Pages.{wrote_on, wrote_page}
 use Rattle.sheet_reader.specs.declared.NameLine.{NameLine}
-use Rattle.sheet_reader.specs.Lines.{tape_key, is_tape_line}
+use Rattle.sheet_reader.specs.Lines.{is_tape_line}
 use Rattle.sheet_reader.specs.Sheet.{longest_sheet}
 use Rattle.sheet_reader.specs.Found.{NamePart, NameLineFound}
 use Rattle.sheet_writer.specs.declared.Written.{Written}
@@ -35,16 +36,22 @@ use Rattle.answer_ltfs.specs.Private.Input.{CountedAt, CountedFound, TextsAt, Te
 use Rattle.answer_ltfs.proofs.Promise.{tape-checks, sheet_within, row_suffices}
 
 -- A line with a key and a number, and so many bytes behind it.
-module _ (key input : List ℕ) (at : ℕ) (r : NumberLine) (found : NumberLineFound (is_number_line key) (number_behind key) input at r) where
-  pub uncounted : r ≡ NumberLine.Bad → is_counted key (drop at input) ≡ false
+module _ (key input : List ℕ) (at : ℕ) (r : Option NumberLine) (found : NumberLineFound (is_number_line key) (number_behind key) input at r) where
+  pub uncounted : r ≡ None → is_counted key (drop at input) ≡ false
   unfolding is_counted
   uncounted e =
-      let bad : is_number_line key (line_of (drop at input)) ≡ false = subst (λ (x : NumberLine). NumberLineFound (is_number_line key) (number_behind key) input at x) e found in
+      let bad : is_number_line key (line_of (drop at input)) ≡ false = subst (λ (x : Option NumberLine). NumberLineFound (is_number_line key) (number_behind key) input at x) e found in
       rw bad
 
-  module _ (number next : ℕ) (e : r ≡ NumberLine.Value number next) where
+  module _ (read : NumberLine) (e : r ≡ Some read) where
+    abbrev number : ℕ
+    number = read.number
+
+    abbrev next : ℕ
+    next = read.next
+
     line_read : Passed (is_number_line key) input at next × (number ≡ number_behind key (line_of (drop at input)))
-    line_read = subst (λ (x : NumberLine). NumberLineFound (is_number_line key) (number_behind key) input at x) e found
+    line_read = subst (λ (x : Option NumberLine). NumberLineFound (is_number_line key) (number_behind key) input at x) e found
 
     pub next_within : next ≤ length input
     next_within = line_read.0.within
@@ -89,44 +96,44 @@ module _ (input : List ℕ) (at : ℕ) where
   unframed : is_framed (drop at input) ≡ false → bad_frame input (drop at input) ≡ true
   unframed e = rw e (or-true (ltb most_tape_input (length input)))
 
-  module _ (r : Counted) (label : CountedFound label_key input at r) where
-    pub no_label : r ≡ Counted.Missing → bad_frame input (drop at input) ≡ true
+  module _ (r : Option Counted) (label : CountedFound label_key input at r) where
+    pub no_label : r ≡ None → bad_frame input (drop at input) ≡ true
     unfolding is_framed
     no_label e =
-        let bad : is_counted label_key (drop at input) ≡ false = subst (λ (x : Counted). CountedFound label_key input at x) e label in
+        let bad : is_counted label_key (drop at input) ≡ false = subst (λ (x : Option Counted). CountedFound label_key input at x) e label in
         unframed (rw bad)
 
-    module _ (from to : ℕ) (e : r ≡ Counted.Text from to) (s : Counted) (index : CountedFound index_key input to s) where
-      first : CountedAt label_key input at from to
-      first = subst (λ (x : Counted). CountedFound label_key input at x) e label
+    module _ (one : Counted) (e : r ≡ Some one) (s : Option Counted) (index : CountedFound index_key input one.to s) where
+      first : CountedAt label_key input at one.from one.to
+      first = subst (λ (x : Option Counted). CountedFound label_key input at x) e label
 
-      pub no_index : s ≡ Counted.Missing → bad_frame input (drop at input) ≡ true
+      pub no_index : s ≡ None → bad_frame input (drop at input) ≡ true
       unfolding is_framed
       no_index f =
-          let bad : is_counted index_key (drop to input) ≡ false = subst (λ (x : Counted). CountedFound index_key input to x) f index in
+          let bad : is_counted index_key (drop one.to input) ≡ false = subst (λ (x : Option Counted). CountedFound index_key input one.to x) f index in
           unframed (rw (first.good, ← first.rest, bad))
 
-      module _ (start over : ℕ) (f : s ≡ Counted.Text start over) where
-        second : CountedAt index_key input to start over
-        second = subst (λ (x : Counted). CountedFound index_key input to x) f index
+      module _ (two : Counted) (f : s ≡ Some two) where
+        second : CountedAt index_key input one.to two.from two.to
+        second = subst (λ (x : Option Counted). CountedFound index_key input one.to x) f index
 
-        pub text_behind : over < length input → bad_frame input (drop at input) ≡ true
+        pub text_behind : two.to < length input → bad_frame input (drop at input) ≡ true
         unfolding is_framed
-        text_behind l = unframed (rw (first.good, ← first.rest, second.good, ← second.rest) (some_left over input l))
+        text_behind l = unframed (rw (first.good, ← first.rest, second.good, ← second.rest) (some_left two.to input l))
 
-        pub texts_there : length input ≤ most_tape_input → length input ≤ over → TextsAt input at from to start
+        pub texts_there : length input ≤ most_tape_input → length input ≤ two.to → TextsAt input at one.from one.to two.from
         unfolding is_framed
         texts_there most l =
             let w = second.within in
             let o = second.ordered in
-            let framed : is_framed (drop at input) ≡ true = rw (first.good, ← first.rest, second.good, ← second.rest) (none_left over input l) in
+            let framed : is_framed (drop at input) ≡ true = rw (first.good, ← first.rest, second.good, ← second.rest) (none_left two.to input l) in
             record {
               good = rw (le-ltb most_tape_input (length input) most, framed);
               ordered = first.ordered;
               within = first.within;
               start = omega arith;
               label = first.text;
-              last = sym (take_all (over - start) (drop start input) (rw (length-drop start input) (omega arith))) ∙ second.text ∙ ap (counted_text index_key) first.rest;
+              last = sym (take_all (two.to - two.from) (drop two.from input) (rw (length-drop two.from input) (omega arith))) ∙ second.text ∙ ap (counted_text index_key) first.rest;
             }
 
 tape_alone : (name label index : List ℕ) → first_of (tape_verdict name label index ∷ []) ≡ tape_verdict name label index
@@ -134,41 +141,35 @@ unfolding tape_verdict
 tape_alone name label index = first_alone (tape-checks name label index)
 
 -- The first line, where it has a name, and the texts behind it.
-module _ (input : List ℕ) (r : NameLine) (found : NameLineFound input r) (end next : ℕ) (e : r ≡ NameLine.Name end next) where
-  named : Passed is_tape_line input 0 next × NamePart input end
-  named = subst (λ (x : NameLine). NameLineFound input x) e found
+module _ (input : List ℕ) (r : Option NameLine) (found : NameLineFound input r) (head : NameLine) (e : r ≡ Some head) where
+  named : Passed is_tape_line input 0 head.next × NamePart input head.end
+  named = subst (λ (x : Option NameLine). NameLineFound input x) e found
 
-  pub name_ordered : 5 ≤ end
-  name_ordered = named.1.ordered
-
-  pub name_within : end ≤ length input
-  name_within = named.1.within
-
-pub texts_found : (input : List ℕ) (next : ℕ) (s : Texts) → TextsFound input next s → (from to index : ℕ) → s ≡ Texts.Both from to index → TextsAt input next from to index
-texts_found input next s texts from to index f = subst (λ (x : Texts). TextsFound input next x) f texts
+pub texts_found : (input : List ℕ) (next : ℕ) (s : Option Texts) → TextsFound input next s → (t : Texts) → s ≡ Some t → TextsAt input next t.from t.to t.index
+texts_found input next s texts t f = subst (λ (x : Option Texts). TextsFound input next x) f texts
 
 -- What an input is refused with, and what else decides.
-module _ (input page : List ℕ) (r : NameLine) (found : NameLineFound input r) where
-  pub no_name : r ≡ NameLine.Bad → (v : Verdict) → v ≡ refuse_if true BadName → (answer : Report) → answer ≡ refused_report v → Drafted input page answer page
+module _ (input page : List ℕ) (r : Option NameLine) (found : NameLineFound input r) where
+  pub no_name : r ≡ None → (v : Verdict) → v ≡ refuse_if true BadName → (answer : Report) → answer ≡ refused_report v → Drafted input page answer page
   unfolding tape_input_verdict ltfs_report written_row
   no_name e v v-is answer a =
-      let bad : is_tape_line (line_of input) ≡ false = subst (λ (x : NameLine). NameLineFound input x) e found in
+      let bad : is_tape_line (line_of input) ≡ false = subst (λ (x : Option NameLine). NameLineFound input x) e found in
       record { report = a ∙ rw (v-is, bad); left = rw bad }
 
-  module _ (end next : ℕ) (e : r ≡ NameLine.Name end next) (s : Texts) (texts : TextsFound input next s) where
-    abbrev line : Passed is_tape_line input 0 next × NamePart input end
-    line = named input r found end next e
+  module _ (head : NameLine) (e : r ≡ Some head) (s : Option Texts) (texts : TextsFound input head.next s) where
+    abbrev line : Passed is_tape_line input 0 head.next × NamePart input head.end
+    line = named input r found head e
 
-    pub no_texts : s ≡ Texts.Missing → (v : Verdict) → v ≡ refuse_if true BadText → (answer : Report) → answer ≡ refused_report v → Drafted input page answer page
+    pub no_texts : s ≡ None → (v : Verdict) → v ≡ refuse_if true BadText → (answer : Report) → answer ≡ refused_report v → Drafted input page answer page
     unfolding tape_input_verdict ltfs_report written_row
     no_texts f v v-is answer a =
-        let bad : bad_frame input (drop next input) ≡ true = subst (λ (x : Texts). TextsFound input next x) f texts in
+        let bad : bad_frame input (drop head.next input) ≡ true = subst (λ (x : Option Texts). TextsFound input head.next x) f texts in
         let here : bad_frame input (behind line_feed input) ≡ true = ap (bad_frame input) (sym line.0.rest) ∙ bad in
         record { report = a ∙ rw (v-is, line.0.good, here); left = rw (line.0.good, here) }
 
-    module _ (from to index : ℕ) (f : s ≡ Texts.Both from to index) where
-      abbrev both : TextsAt input next from to index
-      both = texts_found input next s texts from to index f
+    module _ (t : Texts) (f : s ≡ Some t) where
+      abbrev both : TextsAt input head.next t.from t.to t.index
+      both = texts_found input head.next s texts t f
 
       verdict_is_here : longest_sheet ≤ length page → tape_input_verdict input ≡ ltfs_verdict (input_name input) (input_label input) (input_index input) page
       unfolding tape_input_verdict
@@ -177,13 +178,13 @@ module _ (input page : List ℕ) (r : NameLine) (found : NameLineFound input r) 
           rw (line.0.good, here)
           (tape_alone (input_name input) (input_label input) (input_index input) ∙ sym (row_suffices (input_name input) (input_label input) (input_index input) page fits))
 
-      pub drafted : longest_sheet ≤ length page → (name label list : List ℕ) → name ≡ take (end - 5) (drop 5 input) → label ≡ take (to - from) (drop from input) → list ≡ take (length input - index) (drop index input)
+      pub drafted : longest_sheet ≤ length page → (name label list : List ℕ) → name ≡ take (head.end - 5) (drop 5 input) → label ≡ take (t.to - t.from) (drop t.from input) → list ≡ take (length input - t.index) (drop t.index input)
           → (answer : Report) → answer ≡ ltfs_report (ltfs_verdict name label list page) name label list → (page' : List ℕ) → page' ≡ ltfs_row (ltfs_verdict name label list page) name label list page → Drafted input page answer page'
       unfolding ltfs_row
       drafted fits name label list n l i answer a page' p =
           let n-is : name ≡ input_name input = n ∙ line.1.name in
           let l-is : label ≡ input_label input = l ∙ both.label ∙ ap framed_label line.0.rest in
-          let all : take (length input - index) (drop index input) ≡ drop index input = take_all (length input - index) (drop index input) (rw (length-drop index input) (omega arith)) in
+          let all : take (length input - t.index) (drop t.index input) ≡ drop t.index input = take_all (length input - t.index) (drop t.index input) (rw (length-drop t.index input) (omega arith)) in
           let i-is : list ≡ input_index input = i ∙ all ∙ both.last ∙ ap framed_index line.0.rest in
           record {
             report = rw (verdict_is_here fits, ← n-is, ← l-is, ← i-is) a;

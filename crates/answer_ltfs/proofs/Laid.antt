@@ -11,7 +11,7 @@ use borrow.Author.Tests.{ltb-false, le-ltb, ne_eqb, not-false}
 use Rattle.refusals.specs.declared.Refusal.TheVariants.{BadName, BadText, ManyExtents, Overlap, FarFile, ShortRow}
 use Rattle.refusals.specs.declared.Verdict.{Verdict}
 use Rattle.refusals.specs.Refusals.{accepted, refuse_if, first_of}
-use Rattle.refusals.proofs.Verdicts.{refuses, last_if, all_accept, accepts_if}
+use Rattle.refusals.proofs.Verdicts.{refuses, all_accept, accepts_if}
 use Rattle.runs.specs.Run.{Run, run_of}
 use Rattle.runs.specs.Alone.{alone_of, zeros}
 use Rattle.runs.specs.Judging.{judge_of}
@@ -23,7 +23,6 @@ use Rattle.sheet_writer.specs.Writing.{top_text, sheet_text, row_verdict, write_
 use Rattle.sheet_writer.proofs.Sheets.{first_row}
 use Rattle.answer_ltfs.specs.declared.Report.{Report}
 use Rattle.tape_ranges.specs.declared.Tally.{Tally}
-use Rattle.tape_files.specs.declared.Label.{Label}
 use Rattle.tape_markup.specs.Tree.{Forest, is_balanced, tree_of}
 use Rattle.tape_files.specs.Index.{every, some, is_none, insides, are_good, is_partition, letter_of, index_name, block_sizes, data_partitions, is_good_label, block_size_of, data_partition_of, is_good_extent, index_files, is_good_index}
 use Rattle.tape_ranges.specs.Ranges.{Range}
@@ -187,26 +186,20 @@ module _ (name : List ℕ) (size partition : ℕ) (files : List (List Forest)) (
         by_good true g = by_several tally.several refl g
         by_good false g = same_bad g
 
-    pub laid_refused : (v : Verdict) → TableRows starts lengths → v ≡ first_of (file_checks tally starts lengths) → refuses v ≡ true
-        → (refused_report v ≡ table_report name size partition files row) × (row ≡ table_row name size partition files row)
-    laid_refused v fits e r = refused_table_here v r (files_refused fits (rw e at r) ∙ sym e)
+    pub laid_refused : TableRows starts lengths → refuses (first_of (file_checks tally starts lengths)) ≡ true
+        → (refused_report (first_of (file_checks tally starts lengths)) ≡ table_report name size partition files row) × (row ≡ table_row name size partition files row)
+    laid_refused fits r = refused_table_here (first_of (file_checks tally starts lengths)) r (files_refused fits r)
 
     -- No check refuses.
-    pub laid_passed : (v : Verdict) → v ≡ first_of (file_checks tally starts lengths) → refuses v ≡ false
+    pub laid_passed : refuses (first_of (file_checks tally starts lengths)) ≡ false
         → (tally.good ≡ true) × (tally.several ≡ false) × (tally.far ≡ false) × (neighbour_overlap (ranges_from (take tally.kept starts) (take tally.kept lengths)) ≡ false)
-    laid_passed v e r =
-        let a = all_accept (file_checks tally starts lengths) (rw e at r) in (
+    laid_passed r =
+        let a = all_accept (file_checks tally starts lengths) r in (
           not-false tally.good (accepts_if (not tally.good) BadText refl a.0),
           accepts_if tally.several ManyExtents refl a.1.0,
           accepts_if tally.far FarFile refl a.1.1.0,
           accepts_if (neighbour_overlap (ranges_from (take tally.kept starts) (take tally.kept lengths))) Overlap refl a.1.1.1.0,
         )
-
--- 20 for the texts themselves, from five tests of them.
-pub texts_judged : (label index : List ℕ) (read : Label) (a b s p i : Bool) → a ≡ is_balanced label → b ≡ is_balanced index → s ≡ is_value read.size → p ≡ is_value read.partition
-    → i ≡ not (is_none (insides index_name (tree_of index))) → (v : Verdict) → v ≡ refuse_if (not (a && b && (s && p) && i)) BadText → v ≡ first_of (refuse_if (not (texts_read label index read)) BadText ∷ [])
-texts_judged label index read a b s p i a-is b-is s-is p-is i-is v v-is =
-    last_if {x = not (a && b && (s && p) && i)} {b = not (texts_read label index read)} BadText refl v-is (rw (a-is, b-is, s-is, p-is, i-is))
 
 -- A label that was read is good where its fields are values, and then says the same.
 pub label_size : (label : Forest) → is_value (label_of label).size ≡ are_good is_number (block_sizes label)
@@ -264,13 +257,13 @@ module _ (name label index row : List ℕ) where
   unfolding ltfs_report ltfs_row written_row
   refused_sheet v r e = (rw (e, r), rw (e, r))
 
-  pub sheet_refused : (v : Verdict) → v ≡ first_of (text_checks name label index (label_of (tree_of label))) → refuses v ≡ true
-      → (refused_report v ≡ ltfs_report (ltfs_verdict name label index row) name label index) × (row ≡ ltfs_row (ltfs_verdict name label index row) name label index row)
-  sheet_refused v e r = refused_sheet v r (texts_refused (rw e at r) ∙ sym e)
+  pub sheet_refused : refuses (first_of (text_checks name label index (label_of (tree_of label)))) ≡ true
+      → (refused_report (first_of (text_checks name label index (label_of (tree_of label)))) ≡ ltfs_report (ltfs_verdict name label index row) name label index) × (row ≡ ltfs_row (ltfs_verdict name label index row) name label index row)
+  sheet_refused r = refused_sheet (first_of (text_checks name label index (label_of (tree_of label)))) r (texts_refused r)
 
-  pub sheet_passed : (v : Verdict) → v ≡ first_of (text_checks name label index (label_of (tree_of label))) → refuses v ≡ false → (is_name name ≡ true) × (texts_read label index (label_of (tree_of label)) ≡ true)
-  sheet_passed v e r =
-      let a = all_accept (text_checks name label index (label_of (tree_of label))) (rw e at r) in (
+  pub sheet_passed : refuses (first_of (text_checks name label index (label_of (tree_of label)))) ≡ false → (is_name name ≡ true) × (texts_read label index (label_of (tree_of label)) ≡ true)
+  sheet_passed r =
+      let a = all_accept (text_checks name label index (label_of (tree_of label))) r in (
         not-false (is_name name) (accepts_if (not (is_name name)) BadName refl a.0),
         not-false (texts_read label index (label_of (tree_of label))) (accepts_if (not (texts_read label index (label_of (tree_of label)))) BadText refl a.1.0),
       )

@@ -9,7 +9,7 @@ use lib.Dec.{eqb, ltb}
 use borrow.Author.Tests.{not-false, le-ltb, ltb-false}
 use Rattle.refusals.specs.declared.Refusal.TheVariants.{BadName, BadText, ManyExtents, Overlap, FarFile, LongSheet, BadLine}
 use Rattle.refusals.specs.declared.Verdict.{Verdict}
-use Rattle.refusals.specs.Refusals.{refuse_if, refuse_at, first_of}
+use Rattle.refusals.specs.Refusals.{refuse_if, refuse_at}
 use Rattle.runs.specs.Run.{Run}
 use Rattle.runs.specs.Alone.{zeros}
 use Rattle.runs.specs.Judging.{judge_of}

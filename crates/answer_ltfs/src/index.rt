@@ -6,8 +6,7 @@ ghost use Rattle.tape_files.specs.Elements.{Left, inside};
 ghost use Rattle.answer_ltfs.specs.Private.Parts.{with_extent, with_extents, file_of, NextFound, WalkIn};
 
 use tape_files::{
-    Child, ExtentSaid, Named, Use, extent_is_good, leave, next_child, next_named, read_extent,
-    role_at, value_in,
+    ExtentSaid, Use, extent_is_good, leave, next_child, next_named, read_extent, role_at, value_in,
 };
 use tape_markup::Place;
 use tape_ranges::File;
@@ -25,10 +24,11 @@ pub(crate) struct Walk {
     pub place: Place,
 }
 
+// A file of the index, and where the reader stands behind it.
 #[derive(Clone, Copy)]
-pub(crate) enum NextFile {
-    Found { file: File, walk: Walk },
-    Done,
+pub(crate) struct NextFile {
+    pub file: File,
+    pub walk: Walk,
 }
 
 // A file with one more extent.
@@ -69,16 +69,15 @@ fn read_extents(text: &[u8], place: Place, file: File) -> FileRead
 {
     let mut file = file;
     let mut here = place;
+    // Stays: `while let` would drop the place behind the last of them, which is part of the answer.
     loop {
-        let met = next_named(text, here, b"extent");
-        match met {
-            Named::Done(next) => return FileRead { file, next },
-            Named::At(inner) => {
+        match next_named(text, here, b"extent") {
+            Ok(inner) => {
                 let read = read_extent(text, inner);
-                let extent = read.extent;
-                file = with_extent(file, extent);
+                file = with_extent(file, read.extent);
                 here = read.next;
             }
+            Err(next) => return FileRead { file, next },
         }
     }
 }
@@ -97,52 +96,53 @@ fn read_file(text: &[u8], place: Place) -> FileRead
         count: 0,
     };
     let mut here = place;
+    // Stays: `while let` would drop the place behind the last of them, which is part of the answer.
     loop {
-        let met = next_named(text, here, b"extentinfo");
-        match met {
-            Named::Done(next) => return FileRead { file, next },
-            Named::At(inner) => {
+        match next_named(text, here, b"extentinfo") {
+            Ok(inner) => {
                 let read = read_extents(text, inner, file);
                 file = read.file;
                 here = read.next;
             }
+            Err(next) => return FileRead { file, next },
         }
     }
 }
 
 // The next file of the index.
-pub(crate) fn next_file(text: &[u8], walk: Walk) -> NextFile
+pub(crate) fn next_file(text: &[u8], walk: Walk) -> Option<NextFile>
     requires { WalkIn text.now walk }
     ensures { NextFound text.now walk result }
 {
     let mut depth = walk.depth;
     let mut here = walk.place;
+    // Stays: the depth goes up and down with the elements, so that no range and no chain counts it.
     loop {
-        let child = next_child(text, here);
-        match child {
-            Child::Done(next) => {
+        match next_child(text, here) {
+            Ok(child) => match role_at(text, child.from, child.to, depth) {
+                Use::Enter => {
+                    depth += 1;
+                    here = child.next;
+                }
+                Use::Read => {
+                    let read = read_file(text, child.next);
+                    let walk = Walk {
+                        depth,
+                        place: read.next,
+                    };
+                    return Some(NextFile {
+                        file: read.file,
+                        walk,
+                    });
+                }
+                Use::Skip => here = leave(text, child.next),
+            },
+            Err(next) => {
                 if depth == 0 {
-                    return NextFile::Done;
+                    return None;
                 }
                 depth -= 1;
                 here = next;
-            }
-            Child::Element { from, to, next } => {
-                let role = role_at(text, from, to, depth);
-                match role {
-                    Use::Enter => {
-                        depth += 1;
-                        here = next;
-                    }
-                    Use::Read => {
-                        let read = read_file(text, next);
-                        let file = read.file;
-                        let place = read.next;
-                        let walk = Walk { depth, place };
-                        return NextFile::Found { file, walk };
-                    }
-                    Use::Skip => here = leave(text, next),
-                }
             }
         }
     }

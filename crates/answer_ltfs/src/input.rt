@@ -6,69 +6,60 @@ ghost use Rattle.answer_ltfs.specs.Private.Input.{CountedFound, TextsFound, Draf
 
 use crate::sheet::{refusal_of, table_sheet};
 use crate::{Report, Told};
-use refusals::{Refusal, Verdict, refuse_if, refused};
-use sheet_reader::{NameLine, tape_line};
-use text_lines::{NumberLine, number_line};
+use refusals::{Refusal, Verdict};
+use sheet_reader::tape_line;
+use text_lines::number_line;
 use text_pages::{put, put_number_line};
 
 const MOST_INPUT: usize = 524288;
 
 // A text behind a line with its number of bytes: from one position to another.
 #[derive(Clone, Copy)]
-enum Counted {
-    Text { from: usize, to: usize },
-    Missing,
+struct Counted {
+    from: usize,
+    to: usize,
 }
 
 // The label lies between two positions. The index begins at one, and ends where the input does.
 #[derive(Clone, Copy)]
-enum Texts {
-    Both {
-        from: usize,
-        to: usize,
-        index: usize,
-    },
-    Missing,
+struct Texts {
+    from: usize,
+    to: usize,
+    index: usize,
 }
 
 // A key, a number, and so many bytes.
-fn counted_at(input: &[u8], at: usize, key: &[u8]) -> Counted
+fn counted_at(input: &[u8], at: usize, key: &[u8]) -> Option<Counted>
     ensures { CountedFound key.now input.now at result }
 {
-    let NumberLine::Value { number, next } = number_line(input, at, key) else {
-        return Counted::Missing;
-    };
-    let left = (input.len() - next) as u64;
-    if left < number {
-        return Counted::Missing;
+    let line = number_line(input, at, key)?;
+    let left = (input.len() - line.next) as u64;
+    if left < line.number {
+        return None;
     }
-    Counted::Text {
-        from: next,
-        to: next + number as usize,
-    }
+    Some(Counted {
+        from: line.next,
+        to: line.next + line.number as usize,
+    })
 }
 
 // The texts behind the name's line, and nothing behind them.
-fn texts_at(input: &[u8], at: usize) -> Texts
+fn texts_at(input: &[u8], at: usize) -> Option<Texts>
     ensures { TextsFound input.now at result }
 {
     if MOST_INPUT < input.len() {
-        return Texts::Missing;
+        return None;
     }
-    let Counted::Text { from, to } = counted_at(input, at, b"label=") else {
-        return Texts::Missing;
-    };
-    let Counted::Text {
-        from: index,
-        to: over,
-    } = counted_at(input, to, b"index=")
-    else {
-        return Texts::Missing;
-    };
-    if over < input.len() {
-        return Texts::Missing;
+    let label = counted_at(input, at, b"label=")?;
+    let index = counted_at(input, label.to, b"index=")?;
+    if index.to < input.len() {
+        return None;
     }
-    Texts::Both { from, to, index }
+    Some(Texts {
+        from: label.from,
+        to: label.to,
+        index: index.from,
+    })
 }
 
 // The sheet of an input on a page: 13, 20, and what the label and the index are refused with.
@@ -76,13 +67,20 @@ fn draft(input: &[u8], page: &mut [u8]) -> Report
     requires { 16384 ≤ length page.old }
     ensures { Drafted input.now page.old result page.new }
 {
-    let NameLine::Name { end, next } = tape_line(input) else {
-        return refusal_of(refuse_if(true, Refusal::BadName));
+    let Some(line) = tape_line(input) else {
+        return refusal_of(Verdict {
+            refusal: Refusal::BadName,
+            place: 0,
+        });
     };
-    let Texts::Both { from, to, index } = texts_at(input, next) else {
-        return refusal_of(refuse_if(true, Refusal::BadText));
+    let Some(texts) = texts_at(input, line.next) else {
+        return refusal_of(Verdict {
+            refusal: Refusal::BadText,
+            place: 0,
+        });
     };
-    table_sheet(&input[5..end], &input[from..to], &input[index..], page)
+    let label = &input[texts.from..texts.to];
+    table_sheet(&input[5..line.end], label, &input[texts.index..], page)
 }
 
 // How many files were left out, on a page.
@@ -124,8 +122,8 @@ pub fn answer(input: &[u8], out: &mut [u8], notes: &mut [u8]) -> Told
         refusal,
         place: report.place,
     };
-    if refused(verdict) {
-        let lines = sheet_writer::write_refusal(verdict, out);
+    if let Err(told) = verdict.told() {
+        let lines = sheet_writer::write_refusal(told, out);
         return Told {
             bytes: lines.bytes,
             noted: 0,

@@ -12,6 +12,7 @@ pub use input::answer;
 pub use sheet::table_sheet;
 
 // What is answered: the size of the sheet, and how many files were left out. Every number is 0 on a refusal.
+// Stays: `TapeAnswers` in the demands reads `refusal` and `place` of it, and 0 in the others, so that the answer is no Result.
 #[derive(Clone, Copy)]
 pub struct Report {
     pub refusal: refusals::Refusal,

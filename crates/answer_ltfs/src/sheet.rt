@@ -1,6 +1,6 @@
 // The sheet of a tape's files, from its name, its label and its index.
 ghost use Rattle.std.specs.Prelude.{◌≡◌, true, [], ◌≤◌, length, take};
-ghost use Rattle.refusals.specs.Refusals.{first_of};
+ghost use Rattle.refusals.specs.Refusals.{checked, first_of};
 ghost use Rattle.runs.specs.Alone.{alone_of};
 ghost use Rattle.text_bytes.specs.Text.{is_name};
 ghost use Rattle.sheet_writer.specs.Writing.{SheetWritten};
@@ -12,7 +12,7 @@ ghost use Rattle.answer_ltfs.specs.Private.Tallies.{TableRows, EndsFit, text_che
 
 use crate::Report;
 use crate::table::gather;
-use refusals::{Refusal, Verdict, refuse_if, refused};
+use refusals::{Refusal, Verdict};
 use sheet_writer::Written;
 use tape_files::{Label, has_index, is_value, read_label, value_in};
 use tape_markup::is_balanced;
@@ -33,6 +33,7 @@ pub(crate) fn refusal_of(v: Verdict) -> Report
 }
 
 // The end of the last file; 0 where there is none.
+// Stays: `ltfs_sheet` puts the head there, and an empty tape has it at 0, so that this is a place and no Option.
 fn last_end(starts: &[u64], lengths: &[u64], kept: usize) -> u64
     requires kept_bound { kept ≤ 256 }
     requires table_rows { TableRows starts.now lengths.now }
@@ -88,34 +89,16 @@ fn report_of(written: Written, tally: Tally) -> Report
 }
 
 // The files counted: 20, 21, 23 and 22.
-fn judge_files(tally: Tally, starts: &[u64], lengths: &[u64]) -> Verdict
+fn judge_files(tally: Tally, starts: &[u64], lengths: &[u64]) -> Result<(), Verdict>
     requires kept_bound { tally.kept ≤ 256 }
     requires table_rows { TableRows starts.now lengths.now }
-    ensures { result ≡ first_of (file_checks tally starts.now lengths.now) }
+    ensures { result ≡ checked (first_of (file_checks tally starts.now lengths.now)) }
 {
-    if !tally.good {
-        return Verdict {
-            refusal: Refusal::BadText,
-            place: 0,
-        };
-    }
-    if tally.several {
-        return Verdict {
-            refusal: Refusal::ManyExtents,
-            place: 0,
-        };
-    }
-    if tally.far {
-        return Verdict {
-            refusal: Refusal::FarFile,
-            place: 0,
-        };
-    }
+    Refusal::BadText.when(!tally.good)?;
+    Refusal::ManyExtents.when(tally.several)?;
+    Refusal::FarFile.when(tally.far)?;
     let kept = tally.kept;
-    refuse_if(
-        neighbours_overlap(&starts[..kept], &lengths[..kept]),
-        Refusal::Overlap,
-    )
+    Refusal::Overlap.when(neighbours_overlap(&starts[..kept], &lengths[..kept]))
 }
 
 // The files of an index, for a block size and a data partition: 20, 21, 23, 22 and 8.
@@ -127,9 +110,9 @@ fn lay_out(name: &[u8], size: u64, partition: u64, index: &[u8], out: &mut [u8])
     let mut starts = [0u64; 256];
     let mut lengths = [0u64; 256];
     let tally = gather(index, size, partition, &mut starts, &mut lengths);
-    let verdict = judge_files(tally, &starts, &lengths);
-    if refused(verdict) {
-        return refusal_of(verdict);
+    let judged = judge_files(tally, &starts, &lengths);
+    if let Err(refusal) = judged {
+        return refusal_of(refusal);
     }
     let kept = tally.kept;
     let head = last_end(&starts, &lengths, kept);
@@ -138,21 +121,14 @@ fn lay_out(name: &[u8], size: u64, partition: u64, index: &[u8], out: &mut [u8])
 }
 
 // The name and the two texts: 13, and 20 for a text that is not balanced, a value of the label that is missing or bad, an index without its root.
-fn judge_texts(name: &[u8], label: &[u8], index: &[u8], read: Label) -> Verdict
-    ensures { result ≡ first_of (text_checks name.now label.now index.now read) }
+fn judge_texts(name: &[u8], label: &[u8], index: &[u8], read: Label) -> Result<(), Verdict>
+    ensures { result ≡ checked (first_of (text_checks name.now label.now index.now read)) }
 {
-    if !text_bytes::is_name(name) {
-        return Verdict {
-            refusal: Refusal::BadName,
-            place: 0,
-        };
-    }
-    let size = read.size;
-    let partition = read.partition;
+    Refusal::BadName.when(!text_bytes::is_name(name))?;
     let balanced = is_balanced(label) & is_balanced(index);
-    let values = is_value(size) & is_value(partition);
+    let values = is_value(read.size) & is_value(read.partition);
     let good = balanced & values & has_index(index);
-    refuse_if(!good, Refusal::BadText)
+    Refusal::BadText.when(!good)
 }
 
 // The sheet of a tape's files in the first bytes of a row, and a report of those left out.
@@ -161,13 +137,10 @@ pub fn table_sheet(name: &[u8], label: &[u8], index: &[u8], out: &mut [u8]) -> R
     ensures out_after { out.new ≡ ltfs_row (ltfs_verdict name.now label.now index.now out.old) name.now label.now index.now out.old }
 {
     let read = read_label(label);
-    let verdict = judge_texts(name, label, index, read);
-    if refused(verdict) {
-        return refusal_of(verdict);
+    if let Err(refusal) = judge_texts(name, label, index, read) {
+        return refusal_of(refusal);
     }
-    let size_field = read.size;
-    let partition_field = read.partition;
-    let size = value_in(size_field);
-    let partition = value_in(partition_field);
+    let size = value_in(read.size);
+    let partition = value_in(read.partition);
     lay_out(name, size, partition, index, out)
 }

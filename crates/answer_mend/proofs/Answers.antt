@@ -1,34 +1,34 @@
 -- What is answered, check by check, and the rows that are left.
-use Prim.Native.Nat.{ℕ, zero, suc, ◌+◌, ◌*◌, ◌≤◌, ◌<◌}
+use Prim.Native.Nat.{ℕ, ◌≤◌}
 use mathlib.Core.Path.{◌≡◌, refl, ap, sym, ◌∙◌, subst}
-use mathlib.Core.Bool.{Bool, true, false, cond, ◌||◌}
+use mathlib.Core.Bool.{Bool, true, false, ◌||◌}
 use mathlib.Core.List.{List, [], ◌∷◌, ◌++◌}
 use native.Mathlib.Omega.{arith}
-use lib.ListN.{length, take, drop, replicate, length-append, length-drop, length-replicate}
+use lib.ListN.{length, take, drop}
 use lib.Seq.{take_at}
 use lib.Dec.{ltb}
 use borrow.Author.Tests.{ltb-true, ltb-false, lt-ltb, le-ltb}
 use Rattle.refusals.specs.declared.Refusal.TheVariants.{Accepted, WantRows, TooManyReads, LongSheet, ShortRow, BadLine}
 use Rattle.refusals.specs.declared.Verdict.{Verdict}
-use Rattle.refusals.specs.Refusals.{is_refusal, accepted, refuse_if, refuse_at, first_of}
-use Rattle.refusals.proofs.Verdicts.{refuses, first_passes, first_alone, all_accept, none_refuses, accepts_if, accepts_at}
+use Rattle.refusals.specs.Refusals.{is_refusal, accepted, checked, refuse_if, refuse_at, first_of}
+use Rattle.refusals.proofs.Verdicts.{refuses, first_passes, first_alone, all_accept, none_refuses, accepts_if}
+use Rattle.refusals.proofs.Checked.{passed, stopped, first_stops}
 use Rattle.runs.specs.Run.{most_wants, most_reads}
 use Rattle.runs.proofs.Search.{or_false_both}
-use Rattle.text_lines.specs.Lines.{after_lines, is_pair_line, first_bad_of}
-use Rattle.sheet_reader.specs.Lines.{want_key}
 use Rattle.sheet_reader.specs.Sheet.{longest_sheet}
-use Rattle.sheet_reader.specs.Reading.{short_pair_rows, read_row}
+use Rattle.sheet_reader.specs.Reading.{read_row}
 use Rattle.sheet_reader.proofs.Rows.{length_each}
+use Rattle.std.specs.Prelude.{Ok, Err}
 use Rattle.text_pages.specs.Printing.{Wrote, Put}
 use Rattle.text_pages.proofs.Pages.{wrote_page}
 use Rattle.sheet_loose.specs.declared.Parts.{Parts}
-use Rattle.sheet_loose.specs.Loose.{loose_want_text, loose_wants, first_bad_loose, wanted_files, wanted_counts}
-use Rattle.sheet_loose.specs.Reading.{loose_verdict, want_rows_verdict, refused_parts, sheet_parts, loose_parts, LooseRead}
+use Rattle.sheet_loose.specs.Loose.{loose_wants, first_bad_loose, wanted_files, wanted_counts}
+use Rattle.sheet_loose.specs.Reading.{loose_verdict, want_rows_verdict, sheet_parts, loose_parts, LooseRead}
 use Rattle.sheet_loose.proofs.Wants.{wants_few}
 use Rattle.answer_mend.specs.declared.Mended.{Mended}
 use Rattle.answer_mend.specs.Wants.{remaining, reads_in_all}
 use Rattle.answer_mend.specs.Mending.{sheet_remaining, mended_text, changes_text, wants_verdicts, texts_verdicts, mend_verdict, refused_mending, MendHanded, SheetMended}
-use Rattle.answer_mend.specs.Private.{Held, Gathered, SheetRead, Writable}
+use Rattle.answer_mend.specs.Private.{Gathered, SheetRead, Writable}
 
 -- A text in the first bytes of a row.
 row_put : (text row row' : List ℕ) (next : ℕ) → length text ≤ length row → Put row 0 text (length text) row' next → row' ≡ text ++ drop (length text) row
@@ -37,40 +37,36 @@ row_put text row row' next fits p =
     let e : next ≡ length text = w.after ∙ omega arith in
     wrote_page w ∙ rw e
 
--- v is the verdict, f whether it refuses.
-module _ (v : Verdict) (text changes out notes : List ℕ) (f : Bool) (f-is : f ≡ is_refusal v.refusal) where
-  pub handed_none : f ≡ true → (r : Mended) → r ≡ refused_mending v → MendHanded v text changes out notes r out notes
+-- A verdict that its check hands on, and one that accepts.
+module _ (v : Verdict) (text changes out notes : List ℕ) where
+  pub handed_none : (e : Verdict) → Err e ≡ checked v → (r : Mended) → r ≡ refused_mending e → MendHanded v text changes out notes r out notes
   unfolding read_row
-  handed_none e r r-is =
-      let refused : is_refusal v.refusal ≡ true = sym f-is ∙ e in
-      record { answer = r-is ∙ rw refused; sheet = rw refused; listed = rw refused }
+  handed_none e said r r-is =
+      let s = stopped v e said in
+      record { answer = r-is ∙ ap refused_mending (sym s.is) ∙ rw s.so; sheet = rw s.so; listed = rw s.so }
 
-  pub handed_both : f ≡ false → (out' notes' : List ℕ) → out' ≡ text ++ drop (length text) out → notes' ≡ changes ++ drop (length changes) notes
+  pub handed_both : refuses v ≡ false → (out' notes' : List ℕ) → out' ≡ text ++ drop (length text) out → notes' ≡ changes ++ drop (length changes) notes
       → MendHanded v text changes out notes (record { refusal = Accepted; place = 0; bytes = length text; noted = length changes }) out' notes'
   unfolding read_row
-  handed_both e out' notes' out-is notes-are =
-      let passed : is_refusal v.refusal ≡ false = sym f-is ∙ e in
-      record { answer = rw passed; sheet = out-is ∙ rw passed; listed = notes-are ∙ rw passed }
+  handed_both accepts out' notes' out-is notes-are = record { answer = rw accepts; sheet = out-is ∙ rw accepts; listed = notes-are ∙ rw accepts }
 
 -- Both texts fit their rows.
-module _ (text changes out notes : List ℕ) (v : Verdict) (v-is : v ≡ first_of (texts_verdicts text changes out notes)) (f : Bool) (f-is : f ≡ is_refusal v.refusal) where
-  pub both_none : f ≡ true → (r : Mended) → r ≡ refused_mending v → MendHanded (first_of (texts_verdicts text changes out notes)) text changes out notes r out notes
-  both_none e r r-is = subst (λ w. MendHanded w text changes out notes r out notes) v-is (handed_none v text changes out notes f f-is e r r-is)
+module _ (text changes out notes : List ℕ) (u : Unit) (said : Ok u ≡ checked (first_of (texts_verdicts text changes out notes))) where
+  accepts_here : refuses (first_of (texts_verdicts text changes out notes)) ≡ false
+  accepts_here = passed _ u said
 
-  module _ (e : f ≡ false) where
-    both_fit_here : (ltb (length out) (length text) ≡ false) × (ltb (length notes) (length changes) ≡ false)
-    both_fit_here =
-        let all = all_accept (texts_verdicts text changes out notes) (ap refuses (sym v-is) ∙ sym f-is ∙ e) in
-        or_false_both (ltb (length out) (length text)) (ltb (length notes) (length changes))
-        (accepts_if (ltb (length out) (length text) || ltb (length notes) (length changes)) ShortRow refl all.1.0)
+  both_fit_here : (ltb (length out) (length text) ≡ false) × (ltb (length notes) (length changes) ≡ false)
+  both_fit_here =
+      let all = all_accept (texts_verdicts text changes out notes) accepts_here in
+      or_false_both (ltb (length out) (length text)) (ltb (length notes) (length changes))
+      (accepts_if (ltb (length out) (length text) || ltb (length notes) (length changes)) ShortRow refl all.1.0)
 
-    pub both_put : (out' notes' : List ℕ) (a b : ℕ) → Put out 0 text (length text) out' a → Put notes 0 changes (length changes) notes' b
-        → MendHanded (first_of (texts_verdicts text changes out notes)) text changes out notes (record { refusal = Accepted; place = 0; bytes = length text; noted = length changes }) out' notes'
-    both_put out' notes' a b p q =
-        let fits = both_fit_here in
-        subst (λ w. MendHanded w text changes out notes (record { refusal = Accepted; place = 0; bytes = length text; noted = length changes }) out' notes') v-is
-        (handed_both v text changes out notes f f-is e out' notes'
-        (row_put text out out' a (ltb-false (length out) (length text) fits.0) p) (row_put changes notes notes' b (ltb-false (length notes) (length changes) fits.1) q))
+  pub both_put : (out' notes' : List ℕ) (a b : ℕ) → Put out 0 text (length text) out' a → Put notes 0 changes (length changes) notes' b
+      → MendHanded (first_of (texts_verdicts text changes out notes)) text changes out notes (record { refusal = Accepted; place = 0; bytes = length text; noted = length changes }) out' notes'
+  both_put out' notes' a b p q =
+      let fits = both_fit_here in
+      handed_both (first_of (texts_verdicts text changes out notes)) text changes out notes accepts_here out' notes'
+      (row_put text out out' a (ltb-false (length out) (length text) fits.0) p) (row_put changes notes notes' b (ltb-false (length notes) (length changes) fits.1) q)
 
 -- A text on a page of its own.
 pub page_text_lem : (page text : List ℕ) (most : ℕ) (page' : List ℕ) (next : ℕ) → Wrote page 0 text most page' next → take next page' ≡ text
@@ -85,8 +81,11 @@ texts_handed text changes text' changes' out notes r out' notes' e f h = rw (e, 
 
 -- The wants gathered: many is how many there are, or over 64.
 module _ (sheet : List ℕ) (parts : Parts) (wanted counts : List ℕ) (read : SheetRead sheet parts wanted counts) (many : ℕ) (row : List ℕ)
-    (gathered : Gathered (remaining wanted counts (length wanted)) many row) (v : Verdict)
-    (v-is : v ≡ first_of (refuse_if (ltb most_wants many) WantRows ∷ refuse_if (ltb most_reads (reads_in_all counts)) TooManyReads ∷ [])) (f : Bool) (f-is : f ≡ is_refusal v.refusal) where
+    (gathered : Gathered (remaining wanted counts (length wanted)) many row) where
+  -- 3 and 5, as they are judged.
+  abbrev judged : Verdict
+  judged = first_of (refuse_if (ltb most_wants many) WantRows ∷ refuse_if (ltb most_reads (reads_in_all counts)) TooManyReads ∷ [])
+
   same_remaining : remaining wanted counts (length wanted) ≡ sheet_remaining sheet
   unfolding sheet_remaining
   same_remaining = rw (read.files, read.reads)
@@ -100,31 +99,30 @@ module _ (sheet : List ℕ) (parts : Parts) (wanted counts : List ℕ) (read : S
           let held = gathered.few (ltb-false most_wants many e) in
           ap (λ n. ltb most_wants n) (held.many ∙ ap length same_remaining)
 
-  wants_judged : v ≡ first_of (wants_verdicts sheet)
-  wants_judged = v-is ∙ rw (over_same, read.reads)
+  wants_judged : judged ≡ first_of (wants_verdicts sheet)
+  wants_judged = rw (over_same, read.reads)
 
   module _ (text changes out notes : List ℕ) where
     abbrev rest : List Verdict
     rest = first_of (texts_verdicts text changes out notes) ∷ []
 
-    pub wants_none : f ≡ true → (r : Mended) → r ≡ refused_mending v → MendHanded (first_of (first_of (wants_verdicts sheet) ∷ rest)) text changes out notes r out notes
-    wants_none e r r-is =
-        let refused : is_refusal v.refusal ≡ true = sym f-is ∙ e in
-        let whole : v ≡ first_of (first_of (wants_verdicts sheet) ∷ rest) = rw (← wants_judged, refused) in
-        subst (λ w. MendHanded w text changes out notes r out notes) whole (handed_none v text changes out notes f f-is e r r-is)
+    pub wants_none : (e : Verdict) → Err e ≡ checked judged → (r : Mended) → r ≡ refused_mending e → MendHanded (first_of (first_of (wants_verdicts sheet) ∷ rest)) text changes out notes r out notes
+    wants_none e said r r-is =
+        handed_none (first_of (first_of (wants_verdicts sheet) ∷ rest)) text changes out notes e
+        (first_stops (first_of (wants_verdicts sheet)) rest e (said ∙ ap checked wants_judged)) r r-is
 
-    pub wants_handed : f ≡ false → (r : Mended) (out' notes' : List ℕ) → MendHanded (first_of (texts_verdicts text changes out notes)) text changes out notes r out' notes'
+    pub wants_handed : (u : Unit) → Ok u ≡ checked judged → (r : Mended) (out' notes' : List ℕ) → MendHanded (first_of (texts_verdicts text changes out notes)) text changes out notes r out' notes'
         → MendHanded (first_of (first_of (wants_verdicts sheet) ∷ rest)) text changes out notes r out' notes'
-    wants_handed e r out' notes' h =
-        let passed : is_refusal (first_of (wants_verdicts sheet)).refusal ≡ false = ap refuses (sym wants_judged) ∙ sym f-is ∙ e in
+    wants_handed u said r out' notes' h =
+        let accepts : refuses (first_of (wants_verdicts sheet)) ≡ false = passed _ u (said ∙ ap checked wants_judged) in
         let alone : first_of rest ≡ first_of (texts_verdicts text changes out notes) = first_alone (texts_verdicts text changes out notes) in
-        let whole : first_of (texts_verdicts text changes out notes) ≡ first_of (first_of (wants_verdicts sheet) ∷ rest) = sym (first_passes (first_of (wants_verdicts sheet)) rest passed ∙ alone) in
+        let whole : first_of (texts_verdicts text changes out notes) ≡ first_of (first_of (wants_verdicts sheet) ∷ rest) = sym (first_passes (first_of (wants_verdicts sheet)) rest accepts ∙ alone) in
         subst (λ w. MendHanded w text changes out notes r out' notes') whole h
 
-  module _ (e : f ≡ false) where
+  module _ (u : Unit) (said : Ok u ≡ checked judged) where
     wants_fit_here : (many ≤ most_wants) × (reads_in_all counts ≤ most_reads)
     wants_fit_here =
-        let all = all_accept (refuse_if (ltb most_wants many) WantRows ∷ refuse_if (ltb most_reads (reads_in_all counts)) TooManyReads ∷ []) (ap refuses (sym v-is) ∙ sym f-is ∙ e) in
+        let all = all_accept (refuse_if (ltb most_wants many) WantRows ∷ refuse_if (ltb most_reads (reads_in_all counts)) TooManyReads ∷ []) (passed judged u said) in
         (ltb-false most_wants many (accepts_if (ltb most_wants many) WantRows refl all.0), ltb-false most_reads (reads_in_all counts) (accepts_if (ltb most_reads (reads_in_all counts)) TooManyReads refl all.1.0))
 
     pub wants_writable : Writable sheet parts wanted counts (take many row)
@@ -186,56 +184,51 @@ module _ (sheet wanted₀ counts₀ : List ℕ) (long : length wanted₀ ≡ 273
       go true e = ap (λ p. p.verdict) read.answer ∙ rw (e, e)
       go false e = ap (λ p. p.verdict) (parts_are e) ∙ sym (read_accepted e)
 
-  module _ (f : Bool) (f-is : f ≡ is_refusal parts.verdict.refusal) (out notes : List ℕ) where
-    says : f ≡ is_refusal lv.refusal
-    says = f-is ∙ ap refuses rows_same
-
-    pub mend_none : f ≡ true → (r : Mended) → r ≡ refused_mending parts.verdict → SheetMended sheet out notes r out notes
+  module _ (out notes : List ℕ) where
+    pub mend_none : (e : Verdict) → Err e ≡ checked parts.verdict → (r : Mended) → r ≡ refused_mending e → SheetMended sheet out notes r out notes
     unfolding mend_verdict
-    mend_none e r r-is =
-        let refused : is_refusal lv.refusal ≡ true = sym says ∙ e in
-        let whole : lv ≡ mend_verdict sheet out notes = rw refused in
-        subst (λ w. MendHanded w (mended_text sheet) (changes_text sheet) out notes r out notes) whole
-        (handed_none lv (mended_text sheet) (changes_text sheet) out notes f says e r (r-is ∙ ap refused_mending rows_same))
+    mend_none e said r r-is =
+        handed_none (mend_verdict sheet out notes) (mended_text sheet) (changes_text sheet) out notes e
+        (first_stops lv (first_of (wants_verdicts sheet) ∷ first_of (texts_verdicts (mended_text sheet) (changes_text sheet) out notes) ∷ []) e (said ∙ ap checked rows_same)) r r-is
 
-    module _ (e : f ≡ false) where
-      passes : is_refusal lv.refusal ≡ false
-      passes = sym says ∙ e
+  module _ (u : Unit) (said : Ok u ≡ checked parts.verdict) where
+    passes : is_refusal lv.refusal ≡ false
+    passes = passed lv u (said ∙ ap checked rows_same)
 
-      pub lines_within : parts.wants ≤ 2730
-      lines_within = rw (lines_are passes) (few_lines passes)
+    pub lines_within : parts.wants ≤ 2730
+    lines_within = rw (lines_are passes) (few_lines passes)
 
-      pub sheet_read : SheetRead sheet parts (take parts.wants wanted) (take parts.wants counts)
-      unfolding wanted_files wanted_counts
-      sheet_read =
-          let many = lines_are passes in
-          let size : length (wanted_files sheet) ≡ loose_wants sheet = length_each _ (loose_wants sheet) in
-          let size' : length (wanted_counts sheet) ≡ loose_wants sheet = length_each _ (loose_wants sheet) in
-          let files : take parts.wants wanted ≡ wanted_files sheet = ap (take parts.wants) (files_are passes) ∙ take_at (wanted_files sheet) (drop (length (wanted_files sheet)) wanted₀) parts.wants (size ∙ sym many) in
-          let reads : take parts.wants counts ≡ wanted_counts sheet = ap (take parts.wants) (reads_are passes) ∙ take_at (wanted_counts sheet) (drop (length (wanted_counts sheet)) counts₀) parts.wants (size' ∙ sym many) in
-          record {
-            short = read_short passes;
-            parts_are = parts_are passes;
-            files = files;
-            reads = reads;
-            lines = omega (arith, ap length files, size, few_lines passes);
-            even = ap length files ∙ size ∙ sym size' ∙ sym (ap length reads);
-          }
+    pub sheet_read : SheetRead sheet parts (take parts.wants wanted) (take parts.wants counts)
+    unfolding wanted_files wanted_counts
+    sheet_read =
+        let many = lines_are passes in
+        let size : length (wanted_files sheet) ≡ loose_wants sheet = length_each _ (loose_wants sheet) in
+        let size' : length (wanted_counts sheet) ≡ loose_wants sheet = length_each _ (loose_wants sheet) in
+        let files : take parts.wants wanted ≡ wanted_files sheet = ap (take parts.wants) (files_are passes) ∙ take_at (wanted_files sheet) (drop (length (wanted_files sheet)) wanted₀) parts.wants (size ∙ sym many) in
+        let reads : take parts.wants counts ≡ wanted_counts sheet = ap (take parts.wants) (reads_are passes) ∙ take_at (wanted_counts sheet) (drop (length (wanted_counts sheet)) counts₀) parts.wants (size' ∙ sym many) in
+        record {
+          short = read_short passes;
+          parts_are = parts_are passes;
+          files = files;
+          reads = reads;
+          lines = omega (arith, ap length files, size, few_lines passes);
+          even = ap length files ∙ size ∙ sym size' ∙ sym (ap length reads);
+        }
 
-      pub wanted_sized : parts.wants ≡ length (take parts.wants wanted)
-      unfolding wanted_files
-      wanted_sized = lines_are passes ∙ sym (length_each _ (loose_wants sheet)) ∙ sym (ap length sheet_read.files)
+    pub wanted_sized : parts.wants ≡ length (take parts.wants wanted)
+    unfolding wanted_files
+    wanted_sized = lines_are passes ∙ sym (length_each _ (loose_wants sheet)) ∙ sym (ap length sheet_read.files)
 
-      pub counts_sized : parts.wants ≡ length (take parts.wants counts)
-      counts_sized = wanted_sized ∙ sheet_read.even
+    pub counts_sized : parts.wants ≡ length (take parts.wants counts)
+    counts_sized = wanted_sized ∙ sheet_read.even
 
-      pub mend_rest : (r : Mended) (out' notes' : List ℕ)
-          → MendHanded (first_of (first_of (wants_verdicts sheet) ∷ first_of (texts_verdicts (mended_text sheet) (changes_text sheet) out notes) ∷ [])) (mended_text sheet) (changes_text sheet) out notes r out' notes'
-          → SheetMended sheet out notes r out' notes'
-      unfolding mend_verdict
-      mend_rest r out' notes' h =
-          subst (λ w. MendHanded w (mended_text sheet) (changes_text sheet) out notes r out' notes')
-          (sym (first_passes lv (first_of (wants_verdicts sheet) ∷ first_of (texts_verdicts (mended_text sheet) (changes_text sheet) out notes) ∷ []) passes)) h
+    pub mend_rest : (out notes : List ℕ) (r : Mended) (out' notes' : List ℕ)
+        → MendHanded (first_of (first_of (wants_verdicts sheet) ∷ first_of (texts_verdicts (mended_text sheet) (changes_text sheet) out notes) ∷ [])) (mended_text sheet) (changes_text sheet) out notes r out' notes'
+        → SheetMended sheet out notes r out' notes'
+    unfolding mend_verdict
+    mend_rest out notes r out' notes' h =
+        subst (λ w. MendHanded w (mended_text sheet) (changes_text sheet) out notes r out' notes')
+        (sym (first_passes lv (first_of (wants_verdicts sheet) ∷ first_of (texts_verdicts (mended_text sheet) (changes_text sheet) out notes) ∷ []) passes)) h
 
 -- The contract determines the answer and both rows.
 pub mend_determined : (sheet out notes : List ℕ) (r s : Mended) (out' out'' notes' notes'' : List ℕ) → SheetMended sheet out notes r out' notes' → SheetMended sheet out notes s out'' notes''

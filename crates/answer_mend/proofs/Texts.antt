@@ -1,15 +1,14 @@
 -- The two texts on their pages, line by line.
 use Prim.Native.Nat.{ℕ, zero, suc, ◌+◌, ◌-◌, ◌*◌, ◌≤◌, ◌<◌}
-use mathlib.Core.Path.{◌≡◌, refl, ap, sym, ◌∙◌, subst}
-use mathlib.Core.Bool.{Bool, true, false, cond, not}
+use mathlib.Core.Path.{◌≡◌, refl, ap, sym, ◌∙◌}
+use mathlib.Core.Bool.{Bool, true, false, not}
 use mathlib.Core.List.{List, [], ◌∷◌, ◌++◌, append-nil}
 use native.Mathlib.Omega.{arith}
 use native.Mathlib.Numerals.{add-one}
-use lib.ListN.{length, take, drop, get_or, length-take, length-drop}
+use lib.ListN.{length, take, drop, get_or, length-drop}
 use lib.Seq.{length-take-le}
 use lib.Dec.{eqb}
 use Rattle.refusals.specs.Refusals.{first_where}
-use Rattle.runs.specs.Run.{most_wants, most_reads}
 use Rattle.runs.proofs.Search.{first_within}
 use Rattle.text_bytes.specs.Text.{bytes, comma, decimal}
 use Rattle.text_lines.specs.Lines.{line_after, after_lines, is_triple_line, first_bad_of, lines_before}
@@ -18,12 +17,12 @@ use Rattle.sheet_reader.specs.Sheet.{longest_sheet, most_sheet_files, says_sweep
 use Rattle.text_pages.specs.Printing.{line, number_line, pair_line, pair_lines, Wrote, Put}
 use Rattle.text_pages.proofs.Pages.{wrote_both, wrote_on, wrote_within, wrote_long, put_three, LinesPut, line_put, pairs_left}
 use Rattle.sheet_loose.specs.declared.Parts.{Parts}
-use Rattle.sheet_loose.specs.Loose.{loose_files, loose_wants_text, wants_said, price_left_out, wanted_files, wanted_counts}
-use Rattle.sheet_loose.specs.Reading.{begins_at, sheet_parts}
+use Rattle.sheet_loose.specs.Loose.{loose_files, loose_wants_text, wants_said, price_left_out}
+use Rattle.sheet_loose.specs.Reading.{begins_at}
 use Rattle.answer_mend.specs.declared.wants.Fate.{Fate}
 use Rattle.answer_mend.specs.Wants.{reads_of_want, reads_each, fate_of}
-use Rattle.answer_mend.specs.Mending.{first_lines, sheet_remaining, sheet_reads, mended_text, change_line, change_if, fate_line, fate_lines, changes_text}
-use Rattle.answer_mend.specs.Private.{FewReads, SheetRead, Writable}
+use Rattle.answer_mend.specs.Mending.{first_lines, sheet_reads, mended_text, change_line, change_if, fate_line, fate_lines, changes_text}
+use Rattle.answer_mend.specs.Private.{FewReads, Writable}
 use Rattle.sheet_loose.proofs.Ends.{Ends, after_ends, after_shorter}
 
 -- A text that is not put, and one that is.
@@ -60,9 +59,6 @@ fates_none page at above wanted counts = record { few = omega arith; long = refl
 
 module _ (page₀ : List ℕ) (at above : ℕ) (wanted counts : List ℕ) (room : at + length wanted * 36 ≤ length page₀) (page : List ℕ) (next i : ℕ)
     (p : FatesPut page₀ at above wanted counts page next i) where
-  pub fate_room : i < length wanted → next + 36 ≤ length page
-  fate_room l = omega (arith, p.long, p.wrote.within)
-
   pub fate_more : i < length wanted → (page' : List ℕ) (last : ℕ) → length page' ≡ length page → (fate : Fate) → fate ≡ fate_of wanted counts i
       → Wrote page next (fate_line (above + (i + 1)) fate) 36 page' last → FatesPut page₀ at above wanted counts page' last (i + 1)
   unfolding fate_lines

@@ -8,7 +8,7 @@ mod wants;
 
 ghost use Rattle.std.specs.Prelude.{◌≡◌, ◌||◌, [], ◌∷◌, length, ltb};
 ghost use Rattle.refusals.specs.declared.Refusal.TheVariants.{LongSheet, ShortRow, WantRows, TooManyReads};
-ghost use Rattle.refusals.specs.Refusals.{refuse_if, first_of};
+ghost use Rattle.refusals.specs.Refusals.{checked, refuse_if, first_of};
 ghost use Rattle.runs.specs.Run.{most_wants, most_reads};
 ghost use Rattle.sheet_reader.specs.Sheet.{longest_sheet};
 ghost use Rattle.answer_mend.specs.Wants.{reads_in_all};
@@ -16,13 +16,14 @@ ghost use Rattle.answer_mend.specs.Mending.{mended_text, changes_text, wants_ver
 ghost use Rattle.answer_mend.specs.Private.{SheetRead, Writable};
 
 use pages::{put_changes, put_sheet};
-use refusals::{Refusal, Verdict, refuse_if, refused};
+use refusals::{Refusal, Verdict};
 use sheet_loose::{Parts, read_loose};
 use text_pages::put;
 pub use wants::Fate;
 use wants::{gather, too_many_reads};
 
 // What the mender answers: the bytes of the mended sheet and those of the changes; on a refusal both are 0.
+// Stays: `MenderAnswers` in the promises reads `refusal` and `place` of it, and 0 in the others, so that the answer is no Result.
 #[derive(Clone, Copy)]
 pub struct Mended {
     pub refusal: Refusal,
@@ -44,26 +45,20 @@ fn unmended(verdict: Verdict) -> Mended
 }
 
 // 12 for a mended sheet of so many bytes, then 8 for a row that is shorter than its text.
-fn judge_texts(text: usize, changes: usize, out: usize, notes: usize) -> Verdict
-    ensures { result ≡ first_of (refuse_if (ltb longest_sheet text) LongSheet ∷ refuse_if (ltb out text || ltb notes changes) ShortRow ∷ []) }
+fn judge_texts(text: usize, changes: usize, out: usize, notes: usize) -> Result<(), Verdict>
+    ensures { result ≡ checked (first_of (refuse_if (ltb longest_sheet text) LongSheet ∷ refuse_if (ltb out text || ltb notes changes) ShortRow ∷ [])) }
 {
-    let long = refuse_if(sheet_reader::LONGEST_SHEET < text, Refusal::LongSheet);
-    if refused(long) {
-        return long;
-    }
-    if out < text {
-        return refuse_if(true, Refusal::ShortRow);
-    }
-    refuse_if(notes < changes, Refusal::ShortRow)
+    Refusal::LongSheet.when(sheet_reader::LONGEST_SHEET < text)?;
+    Refusal::ShortRow.when(out < text || notes < changes)
 }
 
 // The two texts in the first bytes of two rows.
 fn hand_both(text: &[u8], changes: &[u8], out: &mut [u8], notes: &mut [u8]) -> Mended
     ensures { MendHanded (first_of (texts_verdicts text.now changes.now out.old notes.old)) text.now changes.now out.old notes.old result out.new notes.new }
 {
-    let verdict = judge_texts(text.len(), changes.len(), out.len(), notes.len());
-    if refused(verdict) {
-        return unmended(verdict);
+    let judged = judge_texts(text.len(), changes.len(), out.len(), notes.len());
+    if let Err(refusal) = judged {
+        return unmended(refusal);
     }
     put(out, 0, text);
     put(notes, 0, changes);
@@ -104,14 +99,11 @@ fn write_mended(
 }
 
 // 3 for so many wants, then 5.
-fn judge_wants(many: usize, counts: &[u64]) -> Verdict
-    ensures { result ≡ first_of (refuse_if (ltb most_wants many) WantRows ∷ refuse_if (ltb most_reads (reads_in_all counts.now)) TooManyReads ∷ []) }
+fn judge_wants(many: usize, counts: &[u64]) -> Result<(), Verdict>
+    ensures { result ≡ checked (first_of (refuse_if (ltb most_wants many) WantRows ∷ refuse_if (ltb most_reads (reads_in_all counts.now)) TooManyReads ∷ [])) }
 {
-    let over = refuse_if(runs::MOST_WANTS < many, Refusal::WantRows);
-    if refused(over) {
-        return over;
-    }
-    refuse_if(too_many_reads(counts), Refusal::TooManyReads)
+    Refusal::WantRows.when(runs::MOST_WANTS < many)?;
+    Refusal::TooManyReads.when(too_many_reads(counts))
 }
 
 // The wants gathered and judged, then both texts.
@@ -128,9 +120,8 @@ fn mend_wants(
 {
     let mut row = [0u64; 65];
     let many = gather(wanted, counts, &mut row);
-    let verdict = judge_wants(many, counts);
-    if refused(verdict) {
-        return unmended(verdict);
+    if let Err(refusal) = judge_wants(many, counts) {
+        return unmended(refusal);
     }
     write_mended(sheet, parts, wanted, counts, &row[..many], out, notes)
 }
@@ -142,9 +133,8 @@ pub fn mend(sheet: &[u8], out: &mut [u8], notes: &mut [u8]) -> Mended
     let mut wanted = [0u64; 2730];
     let mut counts = [0u64; 2730];
     let parts = read_loose(sheet, &mut wanted, &mut counts);
-    let read = parts.verdict;
-    if refused(read) {
-        return unmended(read);
+    if let Err(refusal) = parts.verdict.told() {
+        return unmended(refusal);
     }
     let lines = parts.wants as usize;
     mend_wants(sheet, parts, &wanted[..lines], &counts[..lines], out, notes)

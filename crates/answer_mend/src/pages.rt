@@ -17,11 +17,9 @@ fn put_wants(page: &mut [u8], at: usize, row: &[u64], wanted: &[u64], counts: &[
     ensures { Wrote page.old at (pair_lines want_key row.now (reads_each wanted.now counts.now row.now)) (length row.now * 47) page.new result }
 {
     let mut next = at;
-    let mut i: usize = 0;
-    while i < row.len() {
-        let reads = reads_of(wanted, counts, row[i]);
-        next = put_pair_line(page, next, b"want=", row[i], reads);
-        i += 1;
+    for file in row {
+        let reads = reads_of(wanted, counts, *file);
+        next = put_pair_line(page, next, b"want=", *file, reads);
     }
     next
 }
@@ -92,11 +90,9 @@ fn put_fates(page: &mut [u8], at: usize, above: u64, wanted: &[u64], counts: &[u
     ensures { Wrote page.old at (fate_lines above wanted.now counts.now (length wanted.now)) (length wanted.now * 36) page.new result }
 {
     let mut next = at;
-    let mut i: usize = 0;
-    while i < wanted.len() {
+    for i in 0..wanted.len() {
         let fate = fate_of(wanted, counts, i);
         next = put_fate(page, next, above + (i as u64 + 1), fate);
-        i += 1;
     }
     next
 }

@@ -1,13 +1,13 @@
 -- Totals that grow within a word; an outcome added by its kind.
-use Prim.Native.Nat.{ℕ, ◌+◌, ◌-◌, ◌≤◌, ◌<◌, ◌^◌}
+use Prim.Native.Nat.{ℕ, ◌+◌, ◌-◌, ◌<◌, ◌^◌}
 use mathlib.Core.Path.{◌≡◌, refl, sym, ap, ◌∙◌}
-use mathlib.Core.Bool.{Bool, true, false, ◌||◌}
+use mathlib.Core.Bool.{Bool, true, false}
 use mathlib.Core.Logic.{by_cases}
 use native.Mathlib.Omega.{arith}
 use native.Mathlib.Decide.{dec_le}
-use lib.Dec.{ltb, leb, eqb}
+use lib.Dec.{ltb, eqb}
 use borrow.Author.Tests.{lt-ltb, le-ltb, le-leb, lt-leb, leb-false, eq-eqb, ne_eqb}
-use Rattle.refusals.specs.Refusals.{number_of, is_refusal}
+use Rattle.refusals.specs.Refusals.{number_of}
 use Rattle.answer_outcome.specs.declared.Outcome.{Outcome}
 use Rattle.answer_month.specs.declared.Month.{Month}
 use Rattle.answer_month.specs.Month.{too_large, grown, with_refused, with_totals, with_longest, added}
@@ -42,8 +42,3 @@ module _ (m : Month) (o : Outcome) (n : ℕ) (is : n ≡ number_of o.refusal) wh
   added_accepted none t r e f =
       let q : eqb (number_of o.refusal) 0 ≡ true = eq-eqb (number_of o.refusal) 0 (sym is ∙ none) in
       rw q (f ∙ ap (λ x. with_longest x o) e)
-
--- Five tests, put together one by one.
-pub any_of_five : (v t₁ t₂ t₃ t₄ t₅ T₁ T₂ T₃ T₄ T₅ e₁ e₂ e₃ e₄ r : Bool) → t₁ ≡ T₁ → t₂ ≡ T₂ → e₁ ≡ (t₁ || t₂) → t₃ ≡ T₃ → t₄ ≡ T₄ → e₂ ≡ (t₃ || t₄) → e₃ ≡ (e₁ || e₂) → t₅ ≡ T₅
-    → e₄ ≡ (e₃ || t₅) → r ≡ (v || e₄) → r ≡ (v || (((T₁ || T₂) || (T₃ || T₄)) || T₅))
-any_of_five v t₁ t₂ t₃ t₄ t₅ T₁ T₂ T₃ T₄ T₅ e₁ e₂ e₃ e₄ r a b c d e f g h i j = cc

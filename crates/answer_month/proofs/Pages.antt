@@ -1,16 +1,18 @@
 -- The parts of a month's page put one behind the other.
-use Prim.Native.Nat.{ℕ, zero, suc, ◌+◌, ◌*◌, ◌≤◌, ◌<◌}
+use Prim.Native.Nat.{ℕ, ◌+◌, ◌*◌, ◌≤◌, ◌<◌}
 use mathlib.Core.Path.{◌≡◌, refl, sym, ap, ◌∙◌, subst}
 use mathlib.Core.Bool.{Bool, true, false, not, cond}
 use mathlib.Core.List.{List, [], ◌∷◌, ◌++◌, append-nil, append_assoc}
 use native.Mathlib.Omega.{arith}
 use native.Mathlib.Numerals.{add-one}
 use lib.ListN.{length, get_or, take, drop, drop_of_length-le, length-take}
-use lib.Seq.{drop-cons, length-take-le}
+use lib.Seq.{drop-cons}
 use lib.Dec.{ltb, eqb}
-use borrow.Author.Tests.{lt-ltb, le-ltb, eq-eqb, ne_eqb, ltb-true, ltb-false}
+use borrow.Author.Tests.{eq-eqb, ne_eqb, ltb-true, ltb-false}
 use Rattle.refusals.specs.declared.Verdict.{Verdict}
-use Rattle.refusals.specs.Refusals.{number_of, is_refusal}
+use Rattle.refusals.specs.Refusals.{number_of, is_refusal, checked}
+use Rattle.std.specs.Prelude.{Result}
+use Rattle.std.specs.Result.{is_ok}
 use Rattle.text_bytes.specs.Text.{bytes, comma, decimal}
 use Rattle.text_pages.specs.Printing.{number_line, pair_line, Wrote, Put}
 use Rattle.text_pages.proofs.Pages.{wrote_page, wrote_long, wrote_within, wrote_both, wrote_on}
@@ -86,29 +88,30 @@ put_longest_lem time tape file short page page₁ page₂ page₃ page₄ page�
     let three = wrote_on (wrote_on (p.room (omega arith)) (omega arith) q) (omega arith) s in
     wrote_within (wrote_on (wrote_on three (omega arith) t) (omega arith) u) 67 (omega arith)
 
-not_so : (f b : Bool) → not f ≡ b → f ≡ not b
-not_so true b e = ap not e
-not_so false b e = ap not e
-
 pub short_tape : (tape name : List ℕ) (letters : ℕ) → name ≡ take letters tape → 16 ≡ length tape → length name ≤ 16
 short_tape tape name letters e long = rw (e, length-take) (omega (arith, long))
 
-module _ (saved : ℕ) (v : Verdict) (f : Bool) (f-is : f ≡ is_refusal v.refusal) (page page₁ : List ℕ) (at at₁ : ℕ) (room : at + 83 ≤ length page) (p : Put page at (number_line (bytes "saved=") saved) 27 page₁ at₁) where
-  pub put_saved : not f ≡ true → Wrote page at (month_end saved v) 83 page₁ at₁
+module _ (saved : ℕ) (v : Verdict) (r : Result Unit Verdict) (told : r ≡ checked v) (page page₁ : List ℕ) (at at₁ : ℕ) (room : at + 83 ≤ length page) (p : Put page at (number_line (bytes "saved=") saved) 27 page₁ at₁) where
+  refuses_by : (b : Bool) → is_ok r ≡ b → is_refusal v.refusal ≡ not b
+  refuses_by b e = go (is_refusal v.refusal) refl (rw told at e)
+    where
+      go : (x : Bool) → is_refusal v.refusal ≡ x → is_ok (checked v) ≡ b → is_refusal v.refusal ≡ not b
+      go true h s = h ∙ ap not (rw h at s)
+      go false h s = h ∙ ap not (rw h at s)
+
+  pub put_saved : is_ok r ≡ true → Wrote page at (month_end saved v) 83 page₁ at₁
   unfolding month_end
   put_saved n =
-      let e : f ≡ false = not_so f true n in
       let alone = wrote_within (p.room (omega arith)) 83 (omega arith) in
-      rw (sym f-is ∙ e) (subst (λ t. Wrote page at t 83 page₁ at₁) (sym (append-nil (number_line (bytes "saved=") saved))) alone)
+      rw (refuses_by true n) (subst (λ t. Wrote page at t 83 page₁ at₁) (sym (append-nil (number_line (bytes "saved=") saved))) alone)
 
-  pub put_refused : not f ≡ false → (number : ℕ) → number ≡ number_of v.refusal → (page₂ page₃ : List ℕ) (at₂ at₃ : ℕ) → Put page₁ at₁ (number_line (bytes "refused=") number) 29 page₂ at₂
+  pub put_refused : is_ok r ≡ false → (number : ℕ) → number ≡ number_of v.refusal → (page₂ page₃ : List ℕ) (at₂ at₃ : ℕ) → Put page₁ at₁ (number_line (bytes "refused=") number) 29 page₂ at₂
       → Put page₂ at₂ (number_line (bytes "place=") v.place) 27 page₃ at₃ → Wrote page at (month_end saved v) 83 page₃ at₃
   unfolding month_end
   put_refused n number is page₂ page₃ at₂ at₃ q s =
-      let e : f ≡ true = not_so f false n in
       let said = subst (λ n. Put page₁ at₁ (number_line (bytes "refused=") n) 29 page₂ at₂) is q in
       let all = wrote_on (wrote_on (p.room (omega arith)) (omega arith) said) (omega arith) s in
-      rw (sym f-is ∙ e) (subst (λ t. Wrote page at t 83 page₃ at₃) (append_assoc (number_line (bytes "saved=") saved) (number_line (bytes "refused=") (number_of v.refusal)) (number_line (bytes "place=") v.place)) all)
+      rw (refuses_by false n) (subst (λ t. Wrote page at t 83 page₃ at₃) (append_assoc (number_line (bytes "saved=") saved) (number_line (bytes "refused=") (number_of v.refusal)) (number_line (bytes "place=") v.place)) all)
 
 -- A text in the first bytes of a row, or not.
 module _ (text row : List ℕ) where

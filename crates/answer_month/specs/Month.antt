@@ -1,5 +1,5 @@
 -- The figures of a month, with one sheet's outcome more. Every total is below 2 to the 64: one that would not be stays as it is, and `over` says so.
-use Rattle.std.specs.Prelude.{ℕ, ◌+◌, ◌^◌, Bool, true, false, cond, ◌||◌, List, [], ◌∷◌, get_or, replicate, set, ltb, leb}
+use Rattle.std.specs.Prelude.{ℕ, ◌+◌, ◌^◌, Bool, false, cond, ◌||◌, List, [], ◌∷◌, get_or, replicate, set, ltb, leb}
 use Rattle.refusals.specs.Refusals.{number_of, is_refusal}
 use Rattle.answer_outcome.specs.declared.Outcome.{Outcome}
 use Rattle.answer_month.specs.declared.Month.{Month}

@@ -1,12 +1,7 @@
 -- What private functions answer. No public contract cites this file.
-use Rattle.std.specs.Prelude.{ℕ, ◌≡◌, Bool, true, cond, List, replicate, leb}
-use Rattle.answer_outcome.specs.declared.Outcome.{Outcome}
-use Rattle.answer_outcome.specs.Outcomes.{OutcomeOf}
+use Rattle.std.specs.Prelude.{ℕ, Bool, cond, Option, Result, Err, List, replicate, leb}
 use Rattle.answer_month.specs.declared.Month.{Month}
-use Rattle.answer_month.specs.declared.Part.{Part}
-use Rattle.answer_month.specs.declared.Part.TheVariants.{Bad}
-use Rattle.answer_month.specs.declared.Added.{Added}
-use Rattle.answer_month.specs.Month.{added}
+use Rattle.answer_month.specs.declared.BadPart.{BadPart}
 use Rattle.answer_month.specs.Parts.{most_sheets, count_of}
 
 -- Every number 0.
@@ -27,9 +22,5 @@ zero_month over =
     }
 
 -- A line behind so many sheets.
-abbrev pub line_behind : ℕ → List ℕ → Part
-line_behind sheets line = cond (leb most_sheets sheets) Bad (count_of line)
-
--- The outcome of a sheet that is all there, added.
-abbrev pub Counted : Month → List ℕ → Added → Type 0
-Counted m sheet r = (o : Outcome) × (OutcomeOf sheet o × (r ≡ record { month = added m o; whole = true }))
+abbrev pub line_behind : ℕ → List ℕ → Result (Option ℕ) BadPart
+line_behind sheets line = cond (leb most_sheets sheets) (Err (record {})) (count_of line)

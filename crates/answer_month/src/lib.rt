@@ -2,8 +2,8 @@
 // For the program, which reads part by part. What the words mean stands in specs/; each public function answers every input.
 #![tactic(auto)]
 
-ghost use Rattle.std.specs.Prelude.{◌≡◌, ◌||◌, ◌<◌};
-ghost use Rattle.answer_month.specs.Month.{too_large, grown, empty_month, with_refused, over_totals, with_totals, with_longest, added};
+ghost use Rattle.std.specs.Prelude.{◌≡◌, ◌<◌};
+ghost use Rattle.answer_month.specs.Month.{too_large, grown, empty_month, over_refused, with_refused, over_totals, with_totals, with_longest, added};
 ghost use Rattle.answer_month.specs.Private.{zero_month};
 
 mod page;
@@ -15,6 +15,8 @@ pub use parts::{add_sheet, judge_input, next_part};
 
 // The figures of some sheets: how many they are, the runs accepted, the runs refused by number, reads, summed time, what the plans
 // save, and the longest time with its file and its tape. Where a total would reach 2 to the 64, `over` says so.
+// Stays: a flag beside the totals and no Result, since OutcomeIsAdded in the promises says what each total is where it is set, too.
+// Stays: rows of an array, one count for each refusal and a name of sixteen bytes at most, since the record is copied, and the house works without a heap.
 #[derive(Clone, Copy)]
 pub struct Month {
     pub sheets: u64,
@@ -37,19 +39,14 @@ pub struct Mean {
     pub rest: u64,
 }
 
-// What stands where a part begins: nothing any more, a line with the byte count of a sheet, or neither.
+// A part of the input that is not as described: no line with a byte count, or fewer bytes behind it.
 #[derive(Clone, Copy)]
-pub enum Part {
-    End,
-    Sheet(u64),
-    Bad,
-}
+pub struct BadPart;
 
-// A month, and whether the sheet's bytes were all there.
+// A sheet of which fewer bytes are there than its line says, and the month as it was.
 #[derive(Clone, Copy)]
-pub struct Added {
+pub struct CutOff {
     pub month: Month,
-    pub whole: bool,
 }
 
 // Every number 0.
@@ -95,13 +92,10 @@ pub(crate) fn grow(total: u64, more: u64) -> u64
     total + more
 }
 
-fn either(first: bool, second: bool) -> bool
-    ensures { result ≡ (first || second) }
+fn over_refused(month: Month, runs: u64) -> bool
+    ensures { result ≡ over_refused month runs }
 {
-    if first {
-        return true;
-    }
-    second
+    month.over || too_large(month.sheets, 1) || too_large(runs, 1)
 }
 
 // A run refused with a number.
@@ -114,21 +108,19 @@ fn add_refused(month: Month, number: u64) -> Month
     let runs = next.refused[i];
     next.refused[i] = grow(runs, 1);
     next.sheets = grow(month.sheets, 1);
-    let more = either(too_large(month.sheets, 1), too_large(runs, 1));
-    next.over = either(month.over, more);
+    next.over = over_refused(month, runs);
     next
 }
 
 fn over_totals(month: Month, run: Outcome) -> bool
     ensures { result ≡ over_totals month run }
 {
-    let runs = either(too_large(month.sheets, 1), too_large(month.accepted, 1));
-    let times = either(
-        too_large(month.reads, run.reads),
-        too_large(month.sum, run.sum),
-    );
-    let all = either(either(runs, times), too_large(month.saved, run.saved));
-    either(month.over, all)
+    month.over
+        || too_large(month.sheets, 1)
+        || too_large(month.accepted, 1)
+        || too_large(month.reads, run.reads)
+        || too_large(month.sum, run.sum)
+        || too_large(month.saved, run.saved)
 }
 
 // The totals of a run accepted.

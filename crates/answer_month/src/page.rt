@@ -4,7 +4,7 @@ ghost use Rattle.text_pages.specs.Printing.{Wrote};
 ghost use Rattle.answer_month.specs.Page.{one_if, kinds_in, refusal_line, refusal_lines, mean_of, month_top, sums_text, longest_text, month_end, PagePut};
 
 use crate::{Mean, Month};
-use refusals::{Verdict, refused};
+use refusals::Verdict;
 use text_pages::{put, put_number, put_number_line, put_pair_line};
 
 // One more where there are runs.
@@ -23,10 +23,8 @@ fn count_kinds(runs: &[u64]) -> u64
     ensures { result ≡ kinds_in runs.now }
 {
     let mut kinds: u64 = 0;
-    let mut i: usize = 0;
-    while i < runs.len() {
-        kinds = one_more(kinds, runs[i]);
-        i += 1;
+    for refused in runs {
+        kinds = one_more(kinds, *refused);
     }
     kinds
 }
@@ -47,10 +45,8 @@ fn put_refusals(page: &mut [u8], at: usize, runs: &[u64]) -> usize
     ensures { Wrote page.old at (refusal_lines 0 runs.now) (length runs.now * 50) page.new result }
 {
     let mut next = at;
-    let mut i: usize = 0;
-    while i < runs.len() {
-        next = put_refusal(page, next, i as u64, runs[i]);
-        i += 1;
+    for (number, refused) in runs.iter().enumerate() {
+        next = put_refusal(page, next, number as u64, *refused);
     }
     next
 }
@@ -109,7 +105,7 @@ fn put_end(page: &mut [u8], at: usize, saved: u64, verdict: Verdict) -> usize
     ensures { Wrote page.old at (month_end saved verdict) 83 page.new result }
 {
     let end = put_number_line(page, at, b"saved=", saved);
-    if !refused(verdict) {
+    if verdict.told().is_ok() {
         return end;
     }
     let kind = verdict.refusal;

@@ -2,71 +2,54 @@
 ghost use Rattle.std.specs.Prelude.{◌≡◌};
 ghost use Rattle.answer_month.specs.Month.{grown};
 ghost use Rattle.answer_month.specs.Parts.{count_of, part_of, SheetAdded, input_verdict};
-ghost use Rattle.answer_month.specs.Private.{line_behind, Counted};
+ghost use Rattle.answer_month.specs.Private.{line_behind};
 
-use crate::{Added, Month, Part, add, grow};
+use crate::{BadPart, CutOff, Month, add, grow};
 use refusals::{Refusal, Verdict};
+use text_bytes::{find, read_number};
 
 const MOST_SHEETS: u64 = 1000;
 
 // A line with its LF, as a byte count.
-fn count_line(line: &[u8]) -> Part
+fn count_line(line: &[u8]) -> Result<Option<u64>, BadPart>
     ensures { result ≡ count_of line.now }
 {
-    let text_bytes::Found::At(end) = text_bytes::find(line, b'\n') else {
-        return Part::Bad;
-    };
+    let end = find(line, b'\n').ok_or(BadPart)?;
     if end + 1 != line.len() {
-        return Part::Bad;
+        return Err(BadPart);
     }
-    let text_bytes::Number::Value(bytes) = text_bytes::read_number(&line[..end]) else {
-        return Part::Bad;
-    };
-    Part::Sheet(bytes)
+    let bytes = read_number(&line[..end]).ok_or(BadPart)?;
+    Ok(Some(bytes))
 }
 
 // A line behind so many sheets. After 1,000 nothing may follow.
-fn line_behind(sheets: u64, line: &[u8]) -> Part
+fn line_behind(sheets: u64, line: &[u8]) -> Result<Option<u64>, BadPart>
     ensures { result ≡ line_behind sheets line.now }
 {
     if MOST_SHEETS <= sheets {
-        return Part::Bad;
+        return Err(BadPart);
     }
     count_line(line)
 }
 
-// A line is what there is up to its LF; it is empty where the input has ended.
-pub fn next_part(month: Month, line: &[u8]) -> Part
+// The byte count of the sheet that comes next, if one does. A line is what there is up to its LF; it is empty where the input has ended.
+pub fn next_part(month: Month, line: &[u8]) -> Result<Option<u64>, BadPart>
     ensures { result ≡ part_of month.sheets line.now }
 {
     if line.len() == 0 {
-        return Part::End;
+        return Ok(None);
     }
     line_behind(month.sheets, line)
 }
 
-// A sheet that is all there: its outcome is added.
-fn add_whole(month: Month, sheet: &[u8]) -> Added
-    ensures { Counted month sheet.now result }
-{
-    let next = add(month, answer_outcome::sheet_outcome(sheet));
-    Added {
-        month: next,
-        whole: true,
-    }
-}
-
-// A sheet of so many bytes, of which so many are there. Of a sheet that is too long its first 16,385 bytes stand for it.
-pub fn add_sheet(month: Month, bytes: u64, there: u64, sheet: &[u8]) -> Added
+// The month with a sheet of so many bytes, of which so many are there. Of a sheet that is too long its first 16,385 bytes stand for it.
+pub fn add_sheet(month: Month, bytes: u64, there: u64, sheet: &[u8]) -> Result<Month, CutOff>
     ensures { SheetAdded month bytes there sheet.now result }
 {
     if there < bytes {
-        return Added {
-            month,
-            whole: false,
-        };
+        return Err(CutOff { month });
     }
-    add_whole(month, sheet)
+    Ok(add(month, answer_outcome::sheet_outcome(sheet)))
 }
 
 // The number of the sheet behind so many.
@@ -81,10 +64,7 @@ pub fn judge_input(month: Month, good: bool) -> Verdict
     ensures { result ≡ input_verdict month good }
 {
     if good {
-        return Verdict {
-            refusal: Refusal::Accepted,
-            place: 0,
-        };
+        return Verdict::accepted();
     }
     Verdict {
         refusal: Refusal::BadSheetCount,

@@ -1,9 +1,9 @@
 -- How large an outcome's numbers can be. The least list costs no more than the empty one, whose sweep passes the tape once each way: a run of at
 -- most 1,024 reads has a sum below 2 to the 52.
-use Prim.Native.Nat.{ℕ, zero, suc, ◌+◌, ◌-◌, ◌*◌, ◌≤◌, ◌<◌, ◌^◌}
-use mathlib.Core.Path.{◌≡◌, refl, sym, ap, ◌∙◌, subst}
+use Prim.Native.Nat.{ℕ, suc, ◌+◌, ◌*◌, ◌≤◌, ◌<◌, ◌^◌}
+use mathlib.Core.Path.{◌≡◌, refl, sym, subst}
 use mathlib.Core.Bool.{Bool, true, false}
-use mathlib.Core.List.{List, [], ◌∷◌, ◌++◌}
+use mathlib.Core.List.{List, [], ◌∷◌}
 use native.Mathlib.Omega.{arith}
 use native.Mathlib.Nat.{mul-le-mul_left}
 use lib.ListN.{length, length-append, length-replicate}
@@ -25,7 +25,7 @@ use Rattle.sheet_reader.proofs.Good.{good_name}
 use Rattle.answer_plan.specs.Recall.{run_checks, verdict_by, recall_verdict}
 use Rattle.answer_outcome.specs.declared.Outcome.{Outcome}
 use Rattle.answer_outcome.specs.Outcomes.{name_in, name_letters, refused_outcome, planned_outcome, PlannedAs, OutcomeOf}
-use Rattle.answer_outcome.proofs.Plans.{run_passes, least_saves, name_fits}
+use Rattle.answer_outcome.proofs.Plans.{least_saves, name_fits}
 
 -- One leg from the head: the way to its turn, the turn, and the way to the file's end.
 time_once : (U m : ℕ) (g : Leg) (s : Stop) → time_of U (head_at m) (g ∷ []) s ≤ m + U + s.end

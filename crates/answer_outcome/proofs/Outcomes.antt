@@ -19,25 +19,25 @@ use Rattle.answer_outcome.specs.Outcomes.{refused_outcome, planned_outcome, Plan
 use Rattle.answer_outcome.specs.Private.{RunOutcome}
 
 -- A sheet's run by value.
-module _ (sheet : List ℕ) (r : SheetRun) (is : r ≡ run_by_value sheet) (f : Bool) (f-is : f ≡ is_refusal r.verdict.refusal) where
-  pub sheet_refused : f ≡ true → (o : Outcome) → o ≡ refused_outcome r.verdict.refusal → OutcomeOf sheet o
+module _ (sheet : List ℕ) (r : SheetRun) (is : r ≡ run_by_value sheet) where
+  pub sheet_refused : is_refusal r.verdict.refusal ≡ true → (o : Outcome) → o ≡ refused_outcome r.verdict.refusal → OutcomeOf sheet o
   unfolding verdict_by
   sheet_refused e o says =
-      let same : r.verdict ≡ recall_verdict sheet = refused_first sheet r is f f-is e (run_checks (sheet_run sheet)) in
+      let same : r.verdict ≡ recall_verdict sheet = refused_first sheet r is (is_refusal r.verdict.refusal) refl e (run_checks (sheet_run sheet)) in
       record {
         refused = λ q. says ∙ ap (λ v. refused_outcome v.refusal) same;
-        planned = λ q. absurd (true≢false (sym e ∙ f-is ∙ ap (λ v. is_refusal v.refusal) same ∙ q));
+        planned = λ q. absurd (true≢false (sym e ∙ ap (λ v. is_refusal v.refusal) same ∙ q));
       }
 
   -- The outcome of the run that it holds is the sheet's.
-  module _ (passed : f ≡ false) (name : List ℕ) (e : name ≡ read_name sheet) where
+  module _ (passed : is_refusal r.verdict.refusal ≡ false) (name : List ℕ) (e : name ≡ read_name sheet) where
     pub sheet_named : is_name name ≡ true
-    sheet_named = rw e (sheet_holds sheet r is f f-is passed).named
+    sheet_named = rw e (sheet_holds sheet r is (is_refusal r.verdict.refusal) refl passed).named
 
     pub sheet_ended : (run : Run) → run ≡ run_held r → (o : Outcome) → RunOutcome name run o → OutcomeOf sheet o
     unfolding verdict_by
     sheet_ended run run_is o h =
-        let holds = sheet_holds sheet r is f f-is passed in
+        let holds = sheet_holds sheet r is (is_refusal r.verdict.refusal) refl passed in
         let by-run : RunOutcome name (sheet_run sheet) o = subst (λ x. RunOutcome name x o) (run_is ∙ holds.run) h in
         let by_name : RunOutcome (sheet_name sheet) (sheet_run sheet) o = subst (λ x. RunOutcome x (sheet_run sheet) o) (e ∙ holds.name) by-run in
         subst (λ x. Ends x (sheet_name sheet) (sheet_run sheet) o) (holds.decides (run_checks (sheet_run sheet))) by_name

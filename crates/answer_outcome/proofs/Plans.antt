@@ -1,27 +1,26 @@
 -- From the planner's answer and its row of times to a run's outcome.
-use Prim.Native.Nat.{ℕ, ◌-◌, ◌≤◌, ◌<◌}
+use Prim.Native.Nat.{ℕ, ◌-◌, ◌≤◌}
 use mathlib.Core.Path.{◌≡◌, refl, sym, ap, ◌∙◌, subst}
 use mathlib.Core.Bool.{Bool, true, false, true≢false}
-use mathlib.Core.List.{List, [], ◌∷◌, ◌++◌, map}
+use mathlib.Core.List.{List, [], ◌++◌}
 use native.Mathlib.Omega.{arith}
 use lib.ListN.{length, take, drop, length-map, length-append, length-drop}
 use lib.Seq.{take_at}
-use lib.Dec.{ltb, leb}
+use lib.Dec.{leb}
 use borrow.Author.Tests.{le-ltb, leb-true}
 use Rattle.refusals.specs.declared.Refusal.TheVariants.{Accepted}
-use Rattle.refusals.specs.declared.Verdict.{Verdict}
 use Rattle.refusals.specs.Refusals.{is_refusal, first_of, first_where}
-use Rattle.refusals.proofs.Verdicts.{refuses, all_accept, none_refuses}
-use Rattle.runs.specs.Run.{Run, most_reads, total, stops_of, want_stops_of}
+use Rattle.refusals.proofs.Verdicts.{refuses, all_accept}
+use Rattle.runs.specs.Run.{Run, most_reads, total}
 use Rattle.runs.specs.Rows.{counted_reads}
 use Rattle.runs.specs.Judging.{judge_of}
-use Rattle.runs.specs.Lists.{Detour, list_of, WellFormed, first_bad_entry, list_verdict}
+use Rattle.runs.specs.Lists.{Detour, list_of, first_bad_entry, list_verdict}
 use Rattle.runs.proofs.Judged.{accepted_run}
 use Rattle.runs.proofs.Stops.{wants_length}
 use Rattle.walk.specs.declared.Answer.{Answer}
 use Rattle.walk.specs.Walk.{times_of}
 use Rattle.walk.specs.Price.{priced_answer, priced_times, price_verdict, price_answer}
-use Rattle.walk.specs.Rows.{ReadRows, read_rows}
+use Rattle.walk.specs.Rows.{ReadRows}
 use Rattle.planner.specs.Plan.{Plans, Planned, plan_verdict}
 use Rattle.planner.specs.Rows.{Rows}
 use Rattle.least.specs.Least.{LeastForRun}
@@ -32,7 +31,7 @@ use Rattle.text_bytes.proofs.Bytes.{and_true_both}
 use Rattle.answer_outcome.specs.declared.Timed.{Timed}
 use Rattle.answer_outcome.specs.declared.Outcome.{Outcome}
 use Rattle.answer_outcome.specs.declared.Longest.{Longest}
-use Rattle.answer_outcome.specs.Outcomes.{name_letters, name_in, longest_of, planned_outcome, refused_outcome, PlannedAs}
+use Rattle.answer_outcome.specs.Outcomes.{name_letters, name_in, longest_of, planned_outcome, refused_outcome}
 use Rattle.answer_outcome.specs.Private.{TimedList, TimedPlan, RunOutcome}
 
 -- An accepted run has a time for each want.
@@ -122,18 +121,18 @@ unfolding planned_outcome
 planned_fields name run list reads sum empty most tape r s b m n = rw (r, s, b, m, n) refl
 
 -- A plan's outcome.
-module _ (name : List ℕ) (run : Run) (t : Timed) (p : TimedPlan run t) (f : Bool) (f-is : f ≡ is_refusal t.plan.refusal) where
-  pub run_refused : f ≡ true → (o : Outcome) → o ≡ refused_outcome t.plan.refusal → RunOutcome name run o
+module _ (name : List ℕ) (run : Run) (t : Timed) (p : TimedPlan run t) where
+  pub run_refused : is_refusal t.plan.refusal ≡ true → (o : Outcome) → o ≡ refused_outcome t.plan.refusal → RunOutcome name run o
   run_refused e o is =
-      let same = p.refused (sym f-is ∙ e) in
+      let same = p.refused e in
       record {
         refused = λ q. is ∙ ap refused_outcome (sym same);
-        planned = λ q. absurd (true≢false (sym e ∙ f-is ∙ ap is_refusal (sym same) ∙ q));
+        planned = λ q. absurd (true≢false (sym e ∙ ap is_refusal (sym same) ∙ q));
       }
 
-  module _ (e : f ≡ false) where
+  module _ (e : is_refusal t.plan.refusal ≡ false) where
     pub listed : TimedList run t
-    listed = p.planned (sym f-is ∙ e)
+    listed = p.planned e
 
     pub judged : refuses (judge_of run) ≡ false
     judged = run_passes run listed.passes

@@ -11,12 +11,14 @@ ghost use Rattle.text_bytes.specs.Text.{is_name};
 ghost use Rattle.answer_outcome.specs.Outcomes.{name_letters, name_in, longer, longest_of, refused_outcome, OutcomeOf};
 ghost use Rattle.answer_outcome.specs.Private.{TimedPlan, RunOutcome};
 
-use refusals::{Refusal, Verdict, refused};
+use refusals::{Refusal, Verdict};
 use sheet_runs::entries;
 use walk::Answer;
 
 // A run refused, or accepted with its reads, its sum, what its plan saves against the empty list, and its longest time, with the
 // file and the tape: so many letters, and zeros behind them.
+// Stays: one record and no Result, since NoNumbers in the promises reads every number of a refused run.
+// Stays: a row of an array, since the record is copied, and the house works without a heap.
 #[derive(Clone, Copy)]
 pub struct Outcome {
     pub refusal: Refusal,
@@ -37,6 +39,7 @@ pub struct Longest {
 }
 
 // A plan's answer, and a row with its times.
+// Stays: rows of an array, since the record is copied, and the house works without a heap.
 #[derive(Clone, Copy)]
 struct Timed {
     plan: Answer,
@@ -49,11 +52,7 @@ fn letters_of(name: &[u8]) -> [u8; 16]
     ensures { result ≡ name_in name.now }
 {
     let mut letters = [0u8; 16];
-    let mut i: usize = 0;
-    while i < name.len() {
-        letters[i] = name[i];
-        i += 1;
-    }
+    letters[..name.len()].copy_from_slice(name);
     letters
 }
 
@@ -72,13 +71,8 @@ pub fn longest_time(files: &[u64], times: &[u64]) -> Longest
     ensures { result ≡ longest_of files.now times.now }
 {
     let mut most = Longest { time: 0, file: 0 };
-    let mut i: usize = 0;
-    while i < files.len() {
-        if times.len() <= i {
-            return most;
-        }
-        most = longer_of(most, files[i], times[i]);
-        i += 1;
+    for (file, time) in files.iter().zip(times) {
+        most = longer_of(most, *file, *time);
     }
     most
 }
@@ -167,8 +161,8 @@ fn run_outcome(
         refusal,
         place: plan.place,
     };
-    if refused(verdict) {
-        return refused_outcome(refusal);
+    if let Err(told) = verdict.told() {
+        return refused_outcome(told.refusal);
     }
     let empty = empty_sum(starts, lengths, aggregates, numbers, counts, head, turn);
     let times = timed.times;
@@ -191,10 +185,8 @@ pub fn sheet_outcome(sheet: &[u8]) -> Outcome
     ensures { OutcomeOf sheet.now result }
 {
     let run = sheet_runs::read_run(sheet);
-    let verdict = run.verdict;
-    if refused(verdict) {
-        let kind = verdict.refusal;
-        return refused_outcome(kind);
+    if let Err(told) = run.verdict.told() {
+        return refused_outcome(told.refusal);
     }
     let starts = run.starts;
     let lengths = run.lengths;

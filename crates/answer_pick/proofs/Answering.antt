@@ -1,35 +1,35 @@
 -- The whole answer from its parts: an early refusal, or what the sheet's writer answered.
-use Prim.Native.Nat.{ℕ, zero, suc, ◌≤◌, ◌<◌}
+use Prim.Native.Nat.{ℕ, ◌≤◌}
 use mathlib.Core.Path.{◌≡◌, refl, ap, sym, ◌∙◌, subst}
-use mathlib.Core.Bool.{Bool, true, false, cond, not, ◌&&◌, ◌||◌}
-use mathlib.Core.List.{List, [], ◌∷◌, ◌++◌}
+use mathlib.Core.Bool.{Bool, true, false, not, ◌||◌}
+use mathlib.Core.List.{List, [], ◌∷◌}
 use native.Mathlib.Omega.{arith}
 use native.Mathlib.Decide.{dec_lt}
-use lib.ListN.{length, take, drop}
-use lib.Dec.{eqb, ltb}
-use borrow.Author.Tests.{ne_eqb, eq-eqb, eqb-true, not-true, not-false}
+use lib.ListN.{length, take}
+use lib.Dec.{ltb}
+use borrow.Author.Tests.{ne_eqb, not-true, not-false}
+use Rattle.std.specs.Prelude.{Result, Ok}
 use Rattle.refusals.specs.declared.OwnRefusal.TheVariants.{OtherVolume}
+use Rattle.refusals.specs.declared.Verdict.{Verdict}
 use Rattle.refusals.specs.declared.Refusal.TheVariants.{BadName, BadText, WantRows, ShortRow}
-use Rattle.refusals.specs.Refusals.{number_of, own_number_of, is_refusal, refuse_if, first_of}
+use Rattle.refusals.specs.Refusals.{number_of, own_number_of, refuse_if, first_of}
 use Rattle.refusals.proofs.Verdicts.{refuses}
 use Rattle.text_bytes.specs.Text.{is_name}
-use Rattle.text_lines.specs.Lines.{each_of}
 use Rattle.text_paths.specs.Paths.{line_count, paths_verdict}
 use Rattle.tape_markup.specs.Tree.{tree_of}
-use Rattle.tape_picks.specs.declared.Tape.{Tape}
 use Rattle.tape_files.specs.Volumes.{other_volume}
 use Rattle.tape_picks.specs.Picks.{FilesFound}
 use Rattle.sheet_writer.specs.Writing.{written_row}
 use Rattle.sheet_picks.specs.declared.Picks.{Picks}
-use Rattle.sheet_picks.specs.Entries.{most_entries, EntriesOf}
+use Rattle.sheet_picks.specs.Entries.{most_entries}
 use Rattle.sheet_picks.specs.Sheets.{picked_sheet}
 use Rattle.sheet_picks.specs.Names.{names_text}
-use Rattle.sheet_picks.specs.Writing.{picks_verdict, text_rows_verdict, PicksHanded, HandedFor, PicksWritten}
+use Rattle.sheet_picks.specs.Writing.{picks_verdict, text_rows_verdict, PicksHanded, PicksWritten}
 use Rattle.sheet_picks.proofs.Stands.{lines_few}
 use Rattle.answer_pick.specs.declared.Refused.{Refused}
 use Rattle.answer_pick.specs.declared.Picked.{Picked}
-use Rattle.answer_pick.specs.Picks.{are_readable, tape_of, asked_span, refused_if, first_refused, list_refused, input_checks, line_checks, pick_refused}
-use Rattle.answer_pick.specs.Answer.{asked_starts, asked_ends, entries_refused, rows_refused, answer_of, row_after, PickHanded, PickAnswered}
+use Rattle.answer_pick.specs.Picks.{are_readable, tape_of, refused_if, first_refused, list_refused, input_checks, line_checks, pick_refused}
+use Rattle.answer_pick.specs.Answer.{asked_starts, asked_ends, entries_refused, rows_refused, PickHanded, PickAnswered}
 use Rattle.answer_pick.specs.Private.{row_checks, other_if, refused_answer, picked_of, LinesPicked, IndexRead}
 use Rattle.answer_pick.proofs.Judging.{first_some_lem, first_next, list_accepts}
 use Rattle.answer_pick.proofs.Asked.{checks_same, checks_known, starts_same, ends_same, states_are, starts_are, ends_are}
@@ -43,12 +43,12 @@ module _ (name list states starts ends head turn out names : List ℕ) (count : 
   lines_refused n r e =
       subst (λ k. LinesAt k r out names) counted
       (record {
-        picks = record { refusal = BadName; place = 0; bytes = 0; named = 0 };
+        picks = Ok (record { bytes = 0; named = 0 });
         refused = λ _. (e ∙ ap refused_answer is, refl, refl);
         written = λ z. absurd (n (ap (λ (v : Refused). v.number) is ∙ z));
       })
 
-  pub lines_written : lines.number ≡ 0 → (picks : Picks) (out' names' : List ℕ) → PicksWritten name list (take count starts) (take count ends) head turn out names picks out' names' → (r : Picked)
+  pub lines_written : lines.number ≡ 0 → (picks : Result Picks Verdict) (out' names' : List ℕ) → PicksWritten name list (take count starts) (take count ends) head turn out names picks out' names' → (r : Picked)
       → r ≡ picked_of picks → LinesAt (line_count list) r out' names'
   lines_written z picks out' names' w r e =
       subst (λ k. LinesAt k r out' names') counted
@@ -59,7 +59,7 @@ module _ (name list states starts ends head turn out names : List ℕ) (count : 
       })
 
 -- What the sheet's writer answered, in the words of the whole.
-module _ (sheet named out names : List ℕ) (w : Picks) (out' names' : List ℕ) where
+module _ (sheet named out names : List ℕ) (w : Result Picks Verdict) (out' names' : List ℕ) where
   both : (a b : Bool) → PicksHanded (first_of (refuse_if a WantRows ∷ refuse_if b ShortRow ∷ [])) sheet named out names w out' names'
       → PickHanded (first_refused (refused_if a (number_of WantRows) ∷ refused_if b (number_of ShortRow) ∷ [])) sheet named out names (picked_of w) out' names'
   unfolding written_row

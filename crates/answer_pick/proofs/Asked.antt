@@ -1,17 +1,16 @@
 -- What three rows say of the lines of a list, and what the lines ask for: the same, line by line.
-use Prim.Native.Nat.{ℕ, zero, suc, ◌+◌, ◌≤◌, ◌<◌}
+use Prim.Native.Nat.{ℕ, zero, suc, ◌<◌}
 use mathlib.Core.Path.{◌≡◌, refl, ap, sym, ◌∙◌}
 use mathlib.Core.Bool.{Bool, true, false, cond, not, ◌&&◌, ◌||◌}
 use mathlib.Core.List.{List, [], ◌∷◌, ◌++◌}
 use native.Mathlib.Omega.{arith}
-use native.Mathlib.Decide.{dec_lt}
 use lib.ListN.{length, get_or, take, drop}
 use lib.Seq.{take_at}
-use lib.Dec.{eqb, ltb, leb}
+use lib.Dec.{eqb, ltb}
 use borrow.Author.Tests.{ne_eqb, eqb-true, le-leb, not-false}
 use Rattle.refusals.specs.declared.OwnRefusal.TheVariants.{UnknownPath, NoBytes}
 use Rattle.refusals.specs.declared.Refusal.TheVariants.{FarFile}
-use Rattle.refusals.specs.Refusals.{is_refusal, first_where, number_of, own_number_of}
+use Rattle.refusals.specs.Refusals.{first_where, number_of, own_number_of}
 use Rattle.refusals.proofs.Verdicts.{refuses}
 use Rattle.runs.specs.Run.{last_place}
 use Rattle.runs.proofs.Search.{first_zero}
@@ -19,13 +18,10 @@ use Rattle.text_lines.specs.Lines.{each_of}
 use Rattle.text_lines.proofs.Filling.{length_each}
 use Rattle.text_paths.specs.Paths.{line_count, path_after, paths_verdict}
 use Rattle.tape_markup.specs.Tree.{tree_of}
-use Rattle.tape_spans.specs.declared.Span.{Span}
 use Rattle.tape_files.specs.NamedFiles.{NamedFile, named_files}
 use Rattle.tape_picks.specs.declared.Tape.{Tape}
-use Rattle.tape_picks.specs.declared.Pick.{Pick}
 use Rattle.tape_picks.specs.Picks.{files_named, file_span, has_no_bytes, pick_of, asked_pick, lines_asked, lines_answered, FilesFound}
 use Rattle.sheet_picks.proofs.Stands.{each_at, lines_few}
-use Rattle.answer_pick.specs.declared.Refused.{Refused}
 use Rattle.answer_pick.specs.declared.lines.Test.{Test}
 use Rattle.answer_pick.specs.Picks.{asked_files, first_span, asked_span, is_unknown, is_without, is_too_far, refused_at, first_refused, first_line, line_checks}
 use Rattle.answer_pick.specs.Private.{is_bad, first_bad, row_checks}

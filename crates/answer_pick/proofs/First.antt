@@ -1,6 +1,6 @@
 -- What is answered is the first refusal that applies, by conditions of their own.
-use Prim.Native.Nat.{ℕ, zero, suc, ◌+◌, ◌≤◌, ◌<◌}
-use mathlib.Core.Path.{◌≡◌, refl, ap, sym, ◌∙◌, subst}
+use Prim.Native.Nat.{ℕ, zero, suc, ◌<◌}
+use mathlib.Core.Path.{◌≡◌, refl, ap, sym, ◌∙◌}
 use mathlib.Core.Bool.{Bool, true, false, cond, not, ◌||◌, or-true, true≢false, false≢true}
 use mathlib.Core.Logic.{◌⊎◌, inl, inr, ⊎_elim}
 use mathlib.Core.List.{List, [], ◌∷◌, ◌++◌}
@@ -8,27 +8,25 @@ use native.Mathlib.Omega.{arith}
 use native.Mathlib.Decide.{dec_lt}
 use lib.ListN.{length, get_or}
 use lib.Dec.{eqb, ltb}
-use borrow.Author.Tests.{ne_eqb, eq-eqb, eqb-true, ltb-true, ltb-false, lt-ltb, not-true, not-false}
+use borrow.Author.Tests.{ne_eqb, eq-eqb, eqb-true, ltb-true, lt-ltb, not-true}
 use Rattle.refusals.specs.declared.OwnRefusal.TheVariants.{UnknownPath, NoBytes, OtherVolume}
-use Rattle.refusals.specs.declared.Refusal.TheVariants.{BadName, BadText, FarFile, WantRows, ShortRow, BadLine, TooManyReads}
-use Rattle.refusals.specs.Refusals.{number_of, own_number_of, first_where, one_more, refuse_at, refuse_if}
+use Rattle.refusals.specs.declared.Refusal.TheVariants.{BadName, BadText, FarFile, BadLine, TooManyReads}
+use Rattle.refusals.specs.Refusals.{number_of, own_number_of, first_where, one_more}
 use Rattle.runs.specs.Run.{last_place}
-use Rattle.runs.proofs.Search.{first_zero, first_within, first_before, or_false_both, true_or_false}
+use Rattle.runs.proofs.Search.{first_zero, first_within, first_before}
 use Rattle.text_bytes.specs.Text.{is_name}
 use Rattle.text_lines.specs.Lines.{line_after, first_bad_of}
 use Rattle.text_paths.specs.Paths.{is_asked, line_count, most_lines, path_after, paths_verdict}
 use Rattle.tape_markup.specs.Tree.{tree_of}
 use Rattle.tape_files.specs.Volumes.{other_volume}
-use Rattle.tape_files.specs.NamedFiles.{NamedFile, named_files}
-use Rattle.tape_picks.specs.Picks.{files_named, has_no_bytes}
+use Rattle.tape_files.specs.NamedFiles.{named_files}
 use Rattle.sheet_picks.specs.Entries.{most_entries}
 use Rattle.sheet_picks.specs.Sheets.{picked_sheet}
 use Rattle.sheet_picks.specs.Names.{names_text}
 use Rattle.answer_pick.specs.declared.Refused.{Refused}
 use Rattle.answer_pick.specs.declared.Picked.{Picked}
 use Rattle.answer_pick.specs.Picks.{are_readable, tape_of, asked_files, asked_span, is_unknown, is_without, is_too_far, refused_if, refused_at, first_refused, first_line, list_refused, input_checks, line_checks, pick_refused}
-use Rattle.answer_pick.specs.Answer.{asked_starts, entries_refused, rows_refused, answer_of, PickAnswered}
-use Rattle.answer_pick.specs.Promises.{OnlyFile}
+use Rattle.answer_pick.specs.Answer.{asked_starts, entries_refused, rows_refused, answer_of}
 use Rattle.answer_pick.specs.Applies.{FirstLineThat, HasNoFile, CannotBeRead, EndsTooFar, PickApplies, pick_order, FirstToApply, none, here, later, bad_name, bad_text, another_volume, bad_line, many_lines, unknown_path, no_bytes, far_file, many_entries, short_row, RefusesTheFirst, EntriesArePicked}
 use Rattle.answer_pick.proofs.Readable.{readable_good, good_readable}
 use Rattle.answer_pick.proofs.Promised.{first_parts, one_named, only_one}

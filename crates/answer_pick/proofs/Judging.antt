@@ -1,24 +1,29 @@
 -- Checks in their order: the first that refuses, of the texts, of the list and of its lines.
 use Prim.Native.Nat.{ℕ, zero, suc, ◌+◌, ◌≤◌, ◌<◌}
-use mathlib.Core.Path.{◌≡◌, refl, ap, sym, ◌∙◌}
+use mathlib.Core.Path.{◌≡◌, refl, sym, ap, ◌∙◌}
 use mathlib.Core.Bool.{Bool, true, false, cond, not}
 use mathlib.Core.List.{List, [], ◌∷◌}
 use native.Mathlib.Omega.{arith}
 use lib.ListN.{length, get_or}
-use lib.Dec.{eqb, ltb}
+use lib.Dec.{ltb}
 use native.Mathlib.Decide.{dec_lt}
-use borrow.Author.Tests.{ne_eqb, eq-eqb, not-true, not-false}
+use borrow.Author.Tests.{ne_eqb, not-true, not-false, ltb-true, ltb-false}
+use Rattle.std.specs.Prelude.{Option, Some, None, Ok, Err}
 use Rattle.refusals.specs.declared.OwnRefusal.TheVariants.{UnknownPath, NoBytes, OtherVolume}
 use Rattle.refusals.specs.declared.Refusal.TheVariants.{BadText, FarFile, BadLine, TooManyReads}
-use Rattle.refusals.specs.Refusals.{first_where, number_of, own_number_of, accepted, refuse_at, refuse_if}
+use Rattle.refusals.specs.declared.Verdict.{Verdict}
+use Rattle.refusals.specs.Refusals.{first_where, number_of, own_number_of, accepted, checked, refuse_at, refuse_if}
+use Rattle.refusals.proofs.Checked.{passed, stopped}
 use Rattle.refusals.proofs.Verdicts.{refuses, none_refuses}
 use Rattle.text_lines.specs.Lines.{first_bad_of}
 use Rattle.text_paths.specs.Paths.{is_asked, line_count, most_lines, paths_verdict}
-use Rattle.runs.proofs.Search.{first_none, first_more, first_here, first_done}
+use Rattle.runs.proofs.Search.{first_all, first_here, first_done}
+use Rattle.std.specs.List.{position_or_len}
+use Rattle.std.proofs.lemmas.List.Sums.{prefix_len_passes, prefix_len_stops, prefix_len-le-length}
 use Rattle.answer_pick.specs.declared.Refused.{Refused}
 use Rattle.answer_pick.specs.declared.lines.Test.{Test}
 use Rattle.answer_pick.specs.Picks.{refused_if, refused_at, first_refused, list_refused}
-use Rattle.answer_pick.specs.Private.{is_bad, first_bad, row_checks}
+use Rattle.answer_pick.specs.Private.{is_bad, first_bad, row_checks, numbered}
 
 -- A place that is none, and one that is.
 pub refused_none : (place number : ℕ) → place ≡ 0 → record { number = 0; place = 0 } ≡ refused_at place number
@@ -28,27 +33,38 @@ pub refused_some : (place number : ℕ) → (place ≡ 0 → ⊥) → record { n
 refused_some zero number n = absurd (n refl)
 refused_some (suc place) number n = refl
 
--- The lines of a row passed, none of which is refused.
-pub record NoneBad (test : Test) (row : List ℕ) (i : ℕ) : Type 0 where
-  pub few : i ≤ length row
-  pub none : first_where (λ k. is_bad test (get_or row k 0)) i ≡ 0
-
+-- The first line that is refused, as a search of the row finds it.
 module _ (test : Test) (row : List ℕ) where
-  bad : ℕ → Bool
-  bad k = is_bad test (get_or row k 0)
+  abbrev found : ℕ
+  found = position_or_len (is_bad test) row
 
-  pub bad_none : NoneBad test row 0
-  bad_none = record { few = omega arith; none = first_none (λ k. is_bad test (get_or row k 0)) }
+  before : first_where (λ k. is_bad test (get_or row k 0)) found ≡ 0
+  before =
+      first_all (λ k. is_bad test (get_or row k 0)) found
+      (λ k l. not-true (is_bad test (get_or row k 0)) (prefix_len_passes (λ x. not (is_bad test x)) row k 0 l))
 
-  module _ (i : ℕ) (p : NoneBad test row i) where
-    pub bad_more : i < length row → (t : Bool) → t ≡ is_bad test (get_or row i 0) → t ≡ false → NoneBad test row (i + 1)
-    bad_more l t told e = record { few = omega arith; none = first_more (λ k. is_bad test (get_or row k 0)) i p.none (sym told ∙ e) }
+  bad_here : found < length row → found + 1 ≡ first_bad test row
+  bad_here l =
+      sym (first_here (λ k. is_bad test (get_or row k 0)) found (length row) before
+      (not-false (is_bad test (get_or row found 0)) (prefix_len_stops (λ x. not (is_bad test x)) row 0 l)) l)
 
-    pub bad_here : i < length row → (t : Bool) → t ≡ is_bad test (get_or row i 0) → t ≡ true → i + 1 ≡ first_bad test row
-    bad_here l t told e = sym (first_here (λ k. is_bad test (get_or row k 0)) i (length row) p.none (sym told ∙ e) l)
+  bad_nowhere : length row ≤ found → 0 ≡ first_bad test row
+  bad_nowhere l = first_done (λ k. is_bad test (get_or row k 0)) found (length row) before (prefix_len-le-length (λ x. not (is_bad test x)) row) l
 
-    pub bad_nowhere : length row ≤ i → 0 ≡ first_bad test row
-    bad_nowhere l = first_done (λ k. is_bad test (get_or row k 0)) i (length row) p.none p.few l
+  module _ (r : Option ℕ) (is : r ≡ cond (ltb found (length row)) (Some found) None) where
+    pub bad_found : (i : ℕ) → r ≡ Some i → i + 1 ≡ first_bad test row
+    bad_found i e = go (ltb found (length row)) refl is
+      where
+        go : (t : Bool) → ltb found (length row) ≡ t → r ≡ cond t (Some found) None → i + 1 ≡ first_bad test row
+        go true h s = let same : i ≡ found = cc in rw same (bad_here (ltb-true found (length row) h))
+        go false h s = let z : ◌≡◌ {A = ℕ} 0 1 = cc in absurd (omega arith)
+
+    pub bad_unfound : r ≡ None → 0 ≡ first_bad test row
+    bad_unfound e = go (ltb found (length row)) refl is
+      where
+        go : (t : Bool) → ltb found (length row) ≡ t → r ≡ cond t (Some found) None → 0 ≡ first_bad test row
+        go true h s = let z : ◌≡◌ {A = ℕ} 0 1 = cc in absurd (omega arith)
+        go false h s = bad_nowhere (ltb-false found (length row) h)
 
 -- The first of several checks.
 pub first_some_lem : (v : Refused) (vs : List Refused) → (v.number ≡ 0 → ⊥) → v ≡ first_refused (v ∷ vs)
@@ -103,6 +119,13 @@ accepted_list list r = none_refuses (refuse_at (first_bad_of is_asked (line_coun
 
 list_placed : (list : List ℕ) → (list_refused list).number ≡ 0 → list_refused list ≡ record { number = 0; place = 0 }
 list_placed list e = rw (accepted_list list (list_accepts list e))
+
+-- The list's verdict by its number, where it is handed on and where it is not.
+pub list_passed : (list : List ℕ) (u : Unit) → Ok u ≡ checked (paths_verdict list) → record { number = 0; place = 0 } ≡ list_refused list
+list_passed list u said = rw (accepted_list list (passed (paths_verdict list) u said))
+
+pub list_stopped : (list : List ℕ) (e : Verdict) → Err e ≡ checked (paths_verdict list) → (r : Refused) → r ≡ numbered e → r ≡ list_refused list
+list_stopped list e said r is = is ∙ ap numbered (sym (stopped (paths_verdict list) e said).is)
 
 -- 20, 44, then the list's own.
 module _ (good other : Bool) (list : List ℕ) where

@@ -1,7 +1,7 @@
 -- What a label says, and an index that was read with it.
 use Prim.Native.Nat.{ℕ}
-use mathlib.Core.Path.{◌≡◌, refl, ap, sym, ◌∙◌, subst}
-use mathlib.Core.Bool.{Bool, true, false, cond, not, ◌&&◌, ◌||◌, true≢false, false≢true}
+use mathlib.Core.Path.{◌≡◌, refl, ap, sym, ◌∙◌}
+use mathlib.Core.Bool.{Bool, true, false, not, ◌&&◌, ◌||◌, false≢true}
 use mathlib.Core.List.{List}
 use lib.Dec.{eqb}
 use borrow.Author.Tests.{not-true, not-false}
@@ -12,9 +12,8 @@ use Rattle.tape_files.specs.declared.Label.{Label}
 use Rattle.tape_files.specs.Index.{index_name, is_none, insides, is_good_label, are_good, is_partition, letter_of, block_sizes, data_partitions, block_size_of, data_partition_of}
 use Rattle.tape_files.specs.Values.{is_value, value_in, number_field, letter_field, label_of}
 use Rattle.tape_files.proofs.Said.{field_good, field_value, number_form, letter_form}
-use Rattle.tape_picks.specs.declared.Tape.{Tape}
-use Rattle.tape_picks.specs.Picks.{is_readable, FilesFound}
-use Rattle.answer_pick.specs.Picks.{is_label, are_readable, tape_of}
+use Rattle.tape_picks.specs.Picks.{FilesFound}
+use Rattle.answer_pick.specs.Picks.{is_label, are_readable}
 use Rattle.answer_pick.specs.Private.{label_says, IndexRead}
 
 size_good : (label : Forest) → is_value (label_of label).size ≡ are_good is_number (block_sizes label)

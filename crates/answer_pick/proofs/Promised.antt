@@ -1,34 +1,31 @@
 -- Two answers that fit are equal; each line asks for one file and no other; the files are such as a run takes; and the sheet of their entries is told and reads back.
-use Prim.Native.Nat.{ℕ, zero, suc, ◌+◌, ◌≤◌, ◌<◌}
+use Prim.Native.Nat.{ℕ, zero, suc, ◌≤◌, ◌<◌}
 use mathlib.Core.Path.{◌≡◌, refl, ap, sym, ◌∙◌, subst}
-use mathlib.Core.Bool.{Bool, true, false, cond, not, ◌&&◌, ◌||◌, true≢false, false≢true}
-use mathlib.Core.List.{List, [], ◌∷◌, ◌++◌, map}
+use mathlib.Core.Bool.{Bool, true, false, cond, not, ◌&&◌, ◌||◌, false≢true}
+use mathlib.Core.List.{List, [], ◌∷◌, map}
 use native.Mathlib.Omega.{arith}
 use native.Mathlib.Decide.{dec_lt}
 use lib.ListN.{length, get_or, take, drop}
 use lib.Seq.{take-append_seam}
 use lib.Dec.{eqb, ltb}
-use borrow.Author.Tests.{ne_eqb, eq-eqb, eqb-true, ltb-false, not-false, not-true}
+use borrow.Author.Tests.{ne_eqb, eq-eqb, eqb-true, ltb-false, not-false}
 use Rattle.refusals.specs.declared.OwnRefusal.TheVariants.{UnknownPath, NoBytes, OtherVolume}
-use Rattle.refusals.specs.declared.Refusal.TheVariants.{BadName, BadText, FarFile, WantRows, ShortRow}
-use Rattle.refusals.specs.Refusals.{number_of, own_number_of, first_where}
-use Rattle.refusals.proofs.Verdicts.{refuses}
-use Rattle.runs.specs.Run.{last_place, most_reads}
+use Rattle.refusals.specs.declared.Refusal.TheVariants.{BadName, BadText, FarFile, WantRows}
+use Rattle.refusals.specs.Refusals.{number_of, own_number_of}
+use Rattle.runs.specs.Run.{last_place}
 use Rattle.runs.proofs.Search.{first_zero, or_false_both}
 use Rattle.text_bytes.specs.Text.{is_text, is_name, starts_with}
 use Rattle.text_bytes.proofs.Bytes.{and_true_both}
 use Rattle.text_bytes.proofs.Split.{whole_key}
-use Rattle.text_lines.specs.Lines.{each_of}
 use Rattle.text_lines.proofs.Filling.{length_each}
-use Rattle.text_paths.specs.Paths.{line_count, path_after, paths_verdict}
+use Rattle.text_paths.specs.Paths.{line_count, path_after}
 use Rattle.tape_markup.specs.Tree.{tree_of, is_balanced}
 use Rattle.tape_spans.specs.declared.Span.{Span}
 use Rattle.tape_files.specs.Index.{block_size_of, is_good_label, is_none, insides, index_name}
 use Rattle.tape_files.specs.NamedFiles.{NamedFile, named_files}
-use Rattle.tape_picks.specs.declared.Tape.{Tape}
 use Rattle.tape_files.specs.Volumes.{other_volume}
-use Rattle.tape_picks.specs.Picks.{files_named, extent_in, file_span, has_no_bytes, is_readable}
-use Rattle.sheet_picks.specs.Entries.{most_entries, EntriesOf}
+use Rattle.tape_picks.specs.Picks.{files_named, extent_in, file_span, is_readable}
+use Rattle.sheet_picks.specs.Entries.{most_entries}
 use Rattle.sheet_picks.specs.Sheets.{picked_run, picked_sheet}
 use Rattle.sheet_picks.specs.Names.{names_text}
 use Rattle.sheet_picks.specs.Promises.{Wanted, ReadAgain}
@@ -38,8 +35,8 @@ use Rattle.sheet_picks.proofs.Lines.{begins_itself}
 use Rattle.sheet_picks.proofs.Stands.{each_at, lines_few}
 use Rattle.answer_pick.specs.declared.Refused.{Refused}
 use Rattle.answer_pick.specs.declared.Picked.{Picked}
-use Rattle.answer_pick.specs.Picks.{is_label, are_readable, tape_of, asked_files, first_span, asked_span, is_unknown, is_without, is_too_far, refused_if, refused_at, first_refused, first_line, list_refused, input_checks, line_checks, pick_refused}
-use Rattle.answer_pick.specs.Answer.{asked_starts, asked_ends, entries_refused, rows_refused, answer_of, row_after, PickHanded, PickAnswered}
+use Rattle.answer_pick.specs.Picks.{is_label, are_readable, tape_of, asked_files, asked_span, is_unknown, is_without, is_too_far, refused_if, refused_at, first_refused, first_line, list_refused, input_checks, line_checks, pick_refused}
+use Rattle.answer_pick.specs.Answer.{asked_starts, asked_ends, entries_refused, rows_refused, answer_of, PickHanded, PickAnswered}
 use Rattle.answer_pick.specs.Private.{refused_answer}
 use Rattle.answer_pick.specs.Promises.{PickIsOne, no_file, OnlyFile, FileOfLine, LinesHaveFiles, PickedAreWanted, PickTold, PickTells, PickReadsBack}
 use Rattle.answer_pick.proofs.Judging.{list_accepts}

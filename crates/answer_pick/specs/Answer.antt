@@ -1,5 +1,5 @@
 -- What pick answers, for every input, and the two rows that it leaves: the run sheet and the names, both or neither.
-use Rattle.std.specs.Prelude.{ℕ, suc, ◌≡◌, cond, ◌||◌, List, [], ◌∷◌, ◌++◌, length, drop, eqb, ltb}
+use Rattle.std.specs.Prelude.{ℕ, ◌≡◌, cond, ◌||◌, List, [], ◌∷◌, ◌++◌, length, drop, eqb, ltb}
 use Rattle.refusals.specs.declared.Refusal.TheVariants.{WantRows, ShortRow}
 use Rattle.refusals.specs.Refusals.{number_of}
 use Rattle.text_lines.specs.Lines.{each_of}

@@ -6,7 +6,7 @@ use Rattle.refusals.specs.Refusals.{first_where, number_of, own_number_of}
 use Rattle.runs.specs.Run.{last_place}
 use Rattle.text_bytes.specs.Text.{is_name}
 use Rattle.text_paths.specs.Paths.{line_count, path_after, paths_verdict}
-use Rattle.tape_markup.specs.Tree.{Forest, is_balanced, tree_of}
+use Rattle.tape_markup.specs.Tree.{is_balanced, tree_of}
 use Rattle.tape_spans.specs.declared.Span.{Span}
 use Rattle.tape_spans.specs.Spans.{no_span}
 use Rattle.tape_files.specs.Index.{index_name, is_none, insides, is_good_label, block_size_of, data_partition_of}

@@ -1,7 +1,8 @@
 -- What the private functions ask and find. No public contract cites this file.
-use Rattle.std.specs.Prelude.{ℕ, ◌≤◌, ◌≡◌, Bool, true, false, cond, not, ◌&&◌, ◌||◌, List, [], ◌∷◌, length, get_or, eqb, ltb}
-use Rattle.refusals.specs.declared.OwnRefusal.TheVariants.{UnknownPath, NoBytes, OtherVolume}
-use Rattle.refusals.specs.declared.Refusal.TheVariants.{BadText, FarFile}
+use Rattle.std.specs.Prelude.{ℕ, ◌≡◌, Result, Ok, Err, Bool, true, not, ◌&&◌, ◌||◌, List, [], ◌∷◌, length, get_or, eqb, ltb}
+use Rattle.refusals.specs.declared.OwnRefusal.TheVariants.{UnknownPath, NoBytes}
+use Rattle.refusals.specs.declared.Refusal.TheVariants.{FarFile}
+use Rattle.refusals.specs.declared.Verdict.{Verdict}
 use Rattle.refusals.specs.Refusals.{first_where, number_of, own_number_of}
 use Rattle.runs.specs.Run.{last_place}
 use Rattle.tape_markup.specs.Tree.{is_balanced, tree_of}
@@ -41,16 +42,21 @@ label_says unit label read = is_balanced label && (is_value read.size && is_valu
 abbrev pub other_if : Bool → List ℕ → List ℕ → Bool
 other_if good label index = good && other_volume (tree_of label) (tree_of index)
 
+-- A verdict by the number of its kind.
+abbrev pub numbered : Verdict → Refused
+numbered v = record { number = number_of v.refusal; place = v.place }
+
 -- The answer of a refusal, and of what the sheet's writer answered.
 abbrev pub refused_answer : Refused → Picked
 refused_answer v = record { number = v.number; place = v.place; bytes = 0; named = 0 }
 
-abbrev pub picked_of : Picks → Picked
-picked_of p = record { number = number_of p.refusal; place = p.place; bytes = p.bytes; named = p.named }
+abbrev pub picked_of : Result Picks Verdict → Picked
+picked_of (Ok p) = record { number = 0; place = 0; bytes = p.bytes; named = p.named }
+picked_of (Err v) = refused_answer (numbered v)
 
 -- The lines judged by their rows, then both texts or neither.
 pub record LinesPicked (name list states starts ends head turn out names : List ℕ) (r : Picked) (out' names' : List ℕ) : Type 0 where
-  pub picks : Picks
+  pub picks : Result Picks Verdict
   pub refused : ((row_checks states ends).number ≡ 0 → ⊥) → (r ≡ refused_answer (row_checks states ends)) × (out' ≡ out) × (names' ≡ names)
   pub written : (row_checks states ends).number ≡ 0 → PicksWritten name list starts ends head turn out names picks out' names' × (r ≡ picked_of picks)
 

@@ -9,15 +9,16 @@ ghost use Rattle.std.specs.Prelude.{◌≡◌, ◌≤◌, length, take};
 ghost use Rattle.text_paths.specs.Paths.{line_count};
 ghost use Rattle.answer_pick.specs.Picks.{refused_if, refused_at};
 ghost use Rattle.answer_pick.specs.Answer.{PickAnswered};
-ghost use Rattle.answer_pick.specs.Private.{refused_answer, picked_of, LinesPicked};
+ghost use Rattle.answer_pick.specs.Private.{numbered, refused_answer, picked_of, LinesPicked};
 
 use lines::judge_lines;
-use refusals::Refusal;
+use refusals::{Refusal, Verdict};
 use sheet_picks::{Picks, write_picks};
 use text_paths::count_lines;
 use texts::{judge_input, other_if, read_index};
 
 // A number of the refusal table, 0 for none, and the line it speaks of, counted from 1.
+// Stays: `first_refused` reads the number 0 as none, so that a check answers no Option.
 #[derive(Clone, Copy)]
 pub struct Refused {
     pub number: u64,
@@ -25,6 +26,7 @@ pub struct Refused {
 }
 
 // What is answered: on a refusal its number and place; else the bytes of the sheet and those of the names.
+// Stays: `PickAnswered` tells this record, and a call from C reads its numbers, so that the answer is no Result.
 #[derive(Clone, Copy)]
 pub struct Picked {
     pub number: u64,
@@ -57,6 +59,17 @@ pub(crate) fn refused_at(place: u64, number: u64) -> Refused
     Refused { number, place }
 }
 
+// A verdict that refuses, by the number of its kind.
+pub(crate) fn numbered(verdict: Verdict) -> Refused
+    ensures { result ≡ numbered verdict }
+{
+    let kind = verdict.refusal;
+    Refused {
+        number: refusals::number(kind),
+        place: verdict.place,
+    }
+}
+
 fn unpicked(refused: Refused) -> Picked
     ensures { result ≡ refused_answer refused }
 {
@@ -68,15 +81,17 @@ fn unpicked(refused: Refused) -> Picked
     }
 }
 
-fn told(picks: Picks) -> Picked
+fn told(picks: Result<Picks, Verdict>) -> Picked
     ensures { result ≡ picked_of picks }
 {
-    let refusal = picks.refusal;
-    Picked {
-        number: refusals::number(refusal),
-        place: picks.place,
-        bytes: picks.bytes,
-        named: picks.named,
+    match picks {
+        Ok(picks) => Picked {
+            number: 0,
+            place: 0,
+            bytes: picks.bytes,
+            named: picks.named,
+        },
+        Err(verdict) => unpicked(numbered(verdict)),
     }
 }
 

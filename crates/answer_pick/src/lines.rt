@@ -25,17 +25,14 @@ fn is_bad(test: Test, value: u64) -> bool
 }
 
 // The first such line, counted from 1; 0 where there is none.
+// Stays: 0 and no Option, since `first_where` counts so, by which `PickAnswered` tells the line.
 fn first_bad(test: Test, row: &[u64]) -> u64
     ensures { result ≡ first_bad test row.now }
 {
-    let mut i: usize = 0;
-    while i < row.len() {
-        if is_bad(test, row[i]) {
-            return i as u64 + 1;
-        }
-        i += 1;
+    match row.iter().position(|value| is_bad(test, *value)) {
+        Some(i) => i as u64 + 1,
+        None => 0,
     }
-    0
 }
 
 // 41, 42 and 23.

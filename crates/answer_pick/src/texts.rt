@@ -6,7 +6,7 @@ ghost use Rattle.refusals.specs.Refusals.{number_of, own_number_of};
 ghost use Rattle.answer_pick.specs.Picks.{refused_if, first_refused, list_refused};
 ghost use Rattle.answer_pick.specs.Private.{label_says, other_if, IndexRead};
 
-use crate::{Refused, refused_if};
+use crate::{Refused, numbered, refused_if};
 use refusals::{OwnRefusal, Refusal};
 use tape_files::{Label, has_index, is_value, other_volume, read_label, value_in};
 use tape_markup::is_balanced;
@@ -27,11 +27,12 @@ fn is_label(label: &[u8], unit: u64, read: Label) -> bool
 fn judge_paths(list: &[u8]) -> Refused
     ensures { result ≡ list_refused list.now }
 {
-    let verdict = text_paths::judge_list(list);
-    let kind = verdict.refusal;
-    Refused {
-        number: refusals::number(kind),
-        place: verdict.place,
+    match text_paths::judge_list(list) {
+        Ok(()) => Refused {
+            number: 0,
+            place: 0,
+        },
+        Err(verdict) => numbered(verdict),
     }
 }
 

@@ -2,14 +2,13 @@
 use Prim.Native.Nat.{ℕ, ◌-◌}
 use mathlib.Core.Path.{◌≡◌, refl, sym, ap, ◌∙◌, subst}
 use mathlib.Core.Bool.{Bool, true, false, true≢false}
-use mathlib.Core.List.{List, [], ◌∷◌, ◌++◌, map}
+use mathlib.Core.List.{List, [], ◌++◌, map}
 use native.Mathlib.Omega.{arith}
 use lib.ListN.{length, drop}
 use lib.Dec.{ltb}
 use borrow.Author.Tests.{le-ltb}
-use Rattle.refusals.specs.declared.Refusal.TheVariants.{ShortRow, ShortRoom}
 use Rattle.refusals.specs.declared.Verdict.{Verdict}
-use Rattle.refusals.specs.Refusals.{is_refusal, refuse_if, first_of}
+use Rattle.refusals.specs.Refusals.{is_refusal, first_of}
 use Rattle.refusals.proofs.Verdicts.{refuses, first_refuses, first_passes, all_accept}
 use Rattle.runs.specs.Run.{Run, stops_of}
 use Rattle.runs.specs.Alone.{zeros}
@@ -20,7 +19,7 @@ use Rattle.runs.proofs.Stops.{stops_few}
 use Rattle.walk.specs.declared.Answer.{Answer}
 use Rattle.walk.specs.Price.{refusal_answer, priced_answer}
 use Rattle.planner.specs.Plan.{Plans, Planned, plan_verdict}
-use Rattle.planner.specs.Rows.{Rows, rows_of}
+use Rattle.planner.specs.Rows.{Rows}
 use Rattle.engine_stops.proofs.Halves.{half_long}
 use Rattle.sheet_runs.specs.declared.SheetRun.{SheetRun}
 use Rattle.sheet_runs.specs.SheetRuns.{filled_up, run_held}

@@ -10,11 +10,13 @@ ghost use Rattle.answer_plan.specs.Recall.{run_checks, SheetRecalled};
 ghost use Rattle.answer_plan.specs.PlannedLists.{RunListed, ListWritten};
 ghost use Rattle.answer_plan.specs.Private.{RowsPlanned};
 
-use refusals::{Verdict, refused};
+use refusals::Verdict;
 use sheet_runs::{SheetRun, entries};
 use sheet_writer::Written;
 
 // A verdict, and a list where it accepts: so many entries of each row, and zeros behind them.
+// Stays: `ListTold` in the promises reads verdict and entries of this record, zeros on a refusal, so that it is no Result. Rows of an array, since the
+// record is copied, and the house works without a heap.
 #[derive(Clone, Copy)]
 pub struct PlannedList {
     pub verdict: Verdict,
@@ -61,8 +63,7 @@ fn plan_rows(
 pub fn list_run(run: SheetRun) -> PlannedList
     ensures { RunListed run_checks run result }
 {
-    let verdict = run.verdict;
-    if refused(verdict) {
+    if let Err(verdict) = run.verdict.told() {
         return PlannedList {
             verdict,
             detours: 0,
@@ -118,8 +119,7 @@ fn write_text(name: &[u8], run: SheetRun, froms: &[u64], tos: &[u64], out: &mut 
 pub fn write_list(sheet: &[u8], run: SheetRun, list: PlannedList, out: &mut [u8]) -> u64
     ensures { ListWritten sheet.now run list out.old result out.new }
 {
-    let verdict = list.verdict;
-    if refused(verdict) {
+    if let Err(verdict) = list.verdict.told() {
         let lines = sheet_writer::write_refusal(verdict, out);
         return lines.bytes;
     }

@@ -1,17 +1,18 @@
 -- Where the price of a readable sheet stands, and how the sheet is cut there.
 use Prim.Native.Nat.{ℕ, zero, suc, ◌+◌, ◌-◌, ◌≤◌, ◌<◌}
 use Prim.Native.Char.{code}
-use mathlib.Core.Path.{◌≡◌, sym, ap, ◌∙◌, subst}
+use mathlib.Core.Path.{◌≡◌, refl, sym, ap, ◌∙◌, subst}
 use mathlib.Core.Bool.{Bool, true, false, ◌||◌, true≢false}
 use mathlib.Core.List.{List, [], ◌∷◌, ◌++◌}
 use native.Mathlib.Omega.{arith}
 use native.Mathlib.Decide.{dec_lt}
+use Rattle.std.specs.Prelude.{Option, Some, None}
+use Rattle.std.specs.Bool.{then_some}
 use lib.ListN.{length, get_or, take, drop, length-append, length-drop, get_or-append}
 use lib.Seq.{drop-drop, get_or-drop, get_or_at, take_all}
 use lib.Dec.{eqb}
-use borrow.Author.Tests.{eq-eqb, ne_eqb}
+use borrow.Author.Tests.{eq-eqb, ne_eqb, eqb-true, eqb-false}
 use Rattle.text_bytes.specs.Text.{bytes, line_feed, has, behind}
-use Rattle.text_bytes.specs.declared.Found.{Found}
 use Rattle.text_bytes.specs.Found.{FoundIn, FirstAt}
 use Rattle.text_bytes.proofs.Bytes.{begun_long}
 use Rattle.text_bytes.proofs.Split.{has_here}
@@ -20,7 +21,6 @@ use Rattle.sheet_reader.specs.Lines.{turn_key}
 use Rattle.sheet_reader.proofs.Good.{tape_begun, head_begun, turn_begun, line_split, line_flat}
 use Rattle.answer_rewrite.specs.Rewriting.{price_is_empty, bytes_before, zero_at, rewritten}
 use Rattle.answer_rewrite.specs.Private.{Readable, LineAt, PriceFound}
-use Rattle.answer_rewrite.proofs.Filling.{zero_long}
 
 -- A byte that a text has not stands at none of its places.
 none_at : (c : ℕ) (text : List ℕ) (i : ℕ) → has c text ≡ false → i < length text → get_or text i 0 ≡ c → ⊥
@@ -68,11 +68,11 @@ module _ (sheet : List ℕ) (good : Readable sheet) where
   turn_long = begun_long turn_key (line_after 2 sheet) (turn_begun sheet good)
 
   -- Two searches for LF find where the third line starts.
-  module _ (r : Found) (found : FoundIn line_feed sheet r) where
-    pub first_found : r ≡ Found.Nowhere → ⊥
+  module _ (r : Option ℕ) (found : FoundIn line_feed sheet r) where
+    pub first_found : r ≡ None → ⊥
     first_found e = true≢false (sym tape_ends ∙ subst (λ x. FoundIn line_feed sheet x) e found)
 
-    module _ (i : ℕ) (e : r ≡ Found.At i) where
+    module _ (i : ℕ) (e : r ≡ Some i) where
       first_at : FirstAt line_feed sheet i
       first_at = subst (λ x. FoundIn line_feed sheet x) e found
 
@@ -85,14 +85,14 @@ module _ (sheet : List ℕ) (good : Readable sheet) where
       part_is : take (length sheet - (i + 1)) (drop (i + 1) sheet) ≡ drop (i + 1) sheet
       part_is = take_all (length sheet - (i + 1)) (drop (i + 1) sheet) (omega (arith, length-drop (i + 1) sheet))
 
-      module _ (q : Found) (searched : FoundIn line_feed (take (length sheet - (i + 1)) (drop (i + 1) sheet)) q) where
+      module _ (q : Option ℕ) (searched : FoundIn line_feed (take (length sheet - (i + 1)) (drop (i + 1) sheet)) q) where
         again : FoundIn line_feed (drop (i + 1) sheet) q
         again = subst (λ t. FoundIn line_feed t q) part_is searched
 
-        pub second_found : q ≡ Found.Nowhere → ⊥
+        pub second_found : q ≡ None → ⊥
         second_found f = true≢false (sym head_ends ∙ ap (has line_feed) (sym first_rest) ∙ subst (λ x. FoundIn line_feed (drop (i + 1) sheet) x) f again)
 
-        module _ (j : ℕ) (f : q ≡ Found.At j) where
+        module _ (j : ℕ) (f : q ≡ Some j) where
           second_at : FirstAt line_feed (drop (i + 1) sheet) j
           second_at = subst (λ x. FoundIn line_feed (drop (i + 1) sheet) x) f again
 
@@ -145,16 +145,23 @@ module _ (sheet : List ℕ) (good : Readable sheet) where
           | no m ↦ absurd (n (price_byte ∙ get_or_at (line_after 2 sheet) line_feed (after_lines 3 sheet) 0 5 (omega (arith, turn_long))))
         ]
 
-    pub price_empty : get_or sheet (at + 5) 0 ≡ line_feed → PriceFound sheet (record { empty = true; at = at + 5; bytes = length sheet + 1 })
+    price_empty : get_or sheet (at + 5) 0 ≡ line_feed → PriceFound sheet (Some (at + 5))
     unfolding rewritten price_is_empty
     price_empty e =
         let whole : eqb 5 (length (line_after 2 sheet)) ≡ true = eq-eqb 5 (length (line_after 2 sheet)) (sym (line_whole_here e)) in
         let is : rewritten sheet ≡ zero_at (at + 5) sheet = rw (whole, turn_begun sheet good, bytes_before_here) in
-        record { within = omega (arith, price_within); result = sym is; long = sym (ap length is ∙ zero_long sheet (at + 5) (omega (arith, price_within))) }
+        record { within = omega (arith, price_within); result = sym is }
 
-    pub price_given : (get_or sheet (at + 5) 0 ≡ line_feed → ⊥) → PriceFound sheet (record { empty = false; at = at + 5; bytes = length sheet })
+    price_given : (get_or sheet (at + 5) 0 ≡ line_feed → ⊥) → PriceFound sheet None
     unfolding rewritten price_is_empty
     price_given n =
         let more : eqb 5 (length (line_after 2 sheet)) ≡ false = ne_eqb 5 (length (line_after 2 sheet)) (λ e. omega (arith, e, line_more n)) in
         let is : rewritten sheet ≡ sheet = rw more in
-        record { within = omega (arith, price_within); result = sym is; long = sym (ap length is) }
+        record { within = tt; result = sym is }
+
+    pub price_found : PriceFound sheet (then_some (eqb (get_or sheet (at + 5) 0) line_feed) (at + 5))
+    price_found = go (eqb (get_or sheet (at + 5) 0) line_feed) refl
+      where
+        go : (b : Bool) → eqb (get_or sheet (at + 5) 0) line_feed ≡ b → PriceFound sheet (then_some b (at + 5))
+        go true e = price_empty (eqb-true (get_or sheet (at + 5) 0) line_feed e)
+        go false e = price_given (eqb-false (get_or sheet (at + 5) 0) line_feed e)

@@ -1,12 +1,11 @@
 -- What the functions that look for the price and write the result ask and leave. No public contract cites this file.
-use Rattle.std.specs.Prelude.{ℕ, ◌+◌, ◌≤◌, ◌≡◌, Bool, false, cond, List, [], ◌∷◌, ◌++◌, length, drop, ltb}
+use Rattle.std.specs.Prelude.{ℕ, ◌≤◌, ◌≡◌, false, Option, Some, None, IfSome, List, [], ◌∷◌, ◌++◌, length, drop, ltb}
 use Rattle.refusals.specs.declared.Refusal.TheVariants.{LongSheet, ShortRow}
 use Rattle.refusals.specs.declared.Verdict.{Verdict}
 use Rattle.refusals.specs.Refusals.{is_refusal, refuse_if}
 use Rattle.text_lines.specs.Lines.{after_lines}
 use Rattle.sheet_reader.specs.Sheet.{longest_sheet}
 use Rattle.sheet_reader.specs.Reading.{sheet_verdict}
-use Rattle.answer_rewrite.specs.declared.Price.{Price}
 use Rattle.answer_rewrite.specs.Rewriting.{zero_at, rewritten}
 
 -- A sheet that 12 and 11 accept.
@@ -19,14 +18,18 @@ pub record LineAt (sheet : List ℕ) (at : ℕ) : Type 0 where
   pub rest : drop at sheet ≡ after_lines 2 sheet
 
 -- A sheet with a 0 put in, or as it is.
-abbrev pub priced : Bool → ℕ → List ℕ → List ℕ
-priced empty at sheet = cond empty (zero_at at sheet) sheet
+abbrev pub priced : Option ℕ → List ℕ → List ℕ
+priced (Some at) sheet = zero_at at sheet
+priced None sheet = sheet
 
--- Where the price stands, and that it is the rewritten sheet which a 0 there makes, if one is due.
-pub record PriceFound (sheet : List ℕ) (price : Price) : Type 0 where
-  pub within : price.at ≤ length sheet
-  pub result : priced price.empty price.at sheet ≡ rewritten sheet
-  pub long : price.bytes ≡ length (rewritten sheet)
+-- An empty price stands within its sheet.
+abbrev pub PriceWithin : List ℕ → Option ℕ → Type 0
+PriceWithin sheet price = IfSome price (λ at. at ≤ length sheet)
+
+-- Where an empty price stands, and that it is the rewritten sheet which a 0 there makes, if one is due.
+pub record PriceFound (sheet : List ℕ) (price : Option ℕ) : Type 0 where
+  pub within : PriceWithin sheet price
+  pub result : priced price sheet ≡ rewritten sheet
 
 -- 12 and 8 for a result of so many bytes and a row of so many.
 abbrev pub result_verdict : ℕ → ℕ → List Verdict

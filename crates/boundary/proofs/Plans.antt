@@ -17,6 +17,9 @@ use Rattle.runs.specs.Run.{Run, stops_of}
 use Rattle.runs.specs.Judging.{judge_of}
 use Rattle.walk.specs.Price.{refusal_answer, priced_answer}
 use Rattle.runs.proofs.Search.{true_or_false}
+use Rattle.std.specs.Prelude.{Ok, Err}
+use Rattle.refusals.specs.Refusals.{checked}
+use Rattle.refusals.proofs.Checked.{passed, stopped}
 use Rattle.refusals.proofs.Verdicts.{refuses, test_says}
 use Rattle.walk.proofs.Places.{place_most, judge_near, first_near, if_near}
 use Rattle.planner.proofs.Determined.{planned_once}
@@ -62,16 +65,17 @@ rule_bad rule n = rw (ne_eqb rule least_rule n)
 rule_good : (rule : ℕ) → rule ≡ least_rule → bad_rule rule ≡ false
 rule_good rule e = rw (eq-eqb rule least_rule e)
 
--- A run that the judging refuses: its code.
-module _ (r : Run) (number : ℕ) (v : Verdict) (f : Bool) (v-is : v ≡ judge_of r) (f-is : f ≡ is_refusal v.refusal) where
-  pub run_placed : (a : Answer) → a ≡ refusal_answer v → a.place ≤ place_most
-  run_placed a a-is = rw (a-is, v-is) (judge_near r)
+-- A run that the judging refuses: its code. Of any other the number.
+module _ (r : Run) (number : ℕ) where
+  pub run_placed : (e : Verdict) → Err e ≡ checked (judge_of r) → (a : Answer) → a ≡ refusal_answer e → a.place ≤ place_most
+  run_placed e said a a-is = let s = stopped (judge_of r) e said in rw (a-is, ← s.is) (judge_near r)
 
-  pub run_code : f ≡ true → (a : Answer) → a ≡ refusal_answer v → (code : ℕ) → code ≡ number_of a.refusal + 256 * a.place → code ≡ code_unless (judge_of r) number
-  run_code e a a-is code code_is = rw (test_says v-is f-is e) (rw (a-is, v-is) at code_is)
+  pub run_code : (e : Verdict) → Err e ≡ checked (judge_of r) → (a : Answer) → a ≡ refusal_answer e → (code : ℕ) → code ≡ number_of a.refusal + 256 * a.place
+      → code ≡ code_unless (judge_of r) number
+  run_code e said a a-is code code_is = let s = stopped (judge_of r) e said in rw s.so (rw (a-is, ← s.is) at code_is)
 
-  pub own_number_lem : f ≡ false → number ≡ code_unless (judge_of r) number
-  own_number_lem e = rw (test_says v-is f-is e) refl
+  pub own_number_lem : (u : Unit) → Ok u ≡ checked (judge_of r) → number ≡ code_unless (judge_of r) number
+  own_number_lem u said = rw (passed (judge_of r) u said)
 
 module _ (r : Run) (rule : ℕ) (rows : Rows) (sums : List ℕ) where
   early : (k : Refusal) → is_refusal k ≡ true → plan_call r rule rows sums ≡ first_of (judge_of r ∷ record { refusal = k; place = 0 } ∷ [])

@@ -136,11 +136,10 @@ fn refused_code(
 ) -> u64
     ensures { result ≡ code_unless (judge_of (run_at starts lengths aggregates numbers counts head turn)) number }
 {
-    let run = runs::judge(starts, lengths, aggregates, numbers, counts, head, turn);
-    if refusals::refused(run) {
-        return code(walk::refuse(run));
+    match runs::judge(starts, lengths, aggregates, numbers, counts, head, turn) {
+        Err(refusal) => code(walk::refuse(refusal)),
+        Ok(()) => number,
     }
-    number
 }
 
 #[unsafe(no_mangle)]
@@ -191,6 +190,7 @@ pub extern "C" fn violstream_plan(
 }
 
 // The same for a head anywhere.
+// Stays: as short_price over another pricer; one over a pricer that is passed in names its eleven parameters in a bound and in a clause.
 fn short_price_any(
     starts: &[u64],
     lengths: &[u64],

@@ -1,7 +1,7 @@
 -- What each call's contract says, from the promises of what it calls: the table out of the row, the work by value, the rows written where it is accepted.
 use Prim.Native.Nat.{ℕ, ◌≤◌}
 use mathlib.Core.Path.{◌≡◌, refl, sym, ap, ◌∙◌}
-use mathlib.Core.Bool.{Bool, true, false, cond}
+use mathlib.Core.Bool.{Bool, true, false}
 use mathlib.Core.List.{List}
 use lib.ListN.{length}
 use Rattle.refusals.specs.Refusals.{is_refusal}
@@ -25,7 +25,7 @@ use Rattle.boundary_desk.specs.Calls.{filing_of, file_call, FileAnswered, FileCa
 use Rattle.boundary_desk.specs.Private.{CanSettle, Settled}
 use Rattle.boundary_desk.proofs.Filling.{table_long}
 use Rattle.boundary_desk.proofs.Taking.{leaves_so}
-use Rattle.boundary_desk.proofs.Calling.{Long, lent_long, filing_long, withdrawal_long, boarding_near, boarding_long, event_near, event_long}
+use Rattle.boundary_desk.proofs.Calling.{lent_long, filing_long, withdrawal_long, boarding_near, boarding_long, event_near, event_long}
 
 -- The rows of an accepted call: the records, the last numbers, and a row for one number beside them.
 pub record Fit (rows : List (List ℕ)) (lasts beside : List ℕ) : Type 0 where

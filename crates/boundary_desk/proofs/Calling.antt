@@ -1,17 +1,19 @@
 -- What the calls go by: an accepted call's rows are long enough, and a refusal's place is small.
 use Prim.Native.Nat.{ℕ, ◌≤◌}
 use mathlib.Core.Path.{◌≡◌, refl, sym, ap, ◌∙◌}
-use mathlib.Core.Bool.{Bool, true, false, not, cond, true≢false}
+use mathlib.Core.Bool.{Bool, true, false, not, true≢false}
 use mathlib.Core.Logic.{⊎_elim, by_cases}
 use mathlib.Core.List.{List, [], ◌∷◌}
 use native.Mathlib.Decide.{dec_lt}
 use native.Mathlib.Omega.{arith}
 use lib.ListN.{length}
-use lib.Dec.{ltb, leb}
-use borrow.Author.Tests.{lt-ltb, le-ltb, ltb-true, ltb-false}
+use lib.Dec.{ltb}
+use borrow.Author.Tests.{ltb-false}
+use Rattle.std.specs.Prelude.{Option, Some, None, Result}
+use Rattle.std.specs.Result.{is_err}
 use Rattle.refusals.specs.declared.Refusal.TheVariants.{ShortRow, BadRecord, BadTicket, OfficeFull, NumbersSpent, NotWaiting}
 use Rattle.refusals.specs.declared.Verdict.{Verdict}
-use Rattle.refusals.specs.Refusals.{is_refusal, refuse_if, refuse_at, first_of, first_where}
+use Rattle.refusals.specs.Refusals.{is_refusal, checked, refuse_if, refuse_at, first_where}
 use Rattle.refusals.proofs.Verdicts.{refuses, all_accept, accepts_if}
 use Rattle.runs.proofs.Search.{true_or_false, first_within}
 use Rattle.walk.proofs.Places.{place_most, first_near, if_near, at_near}
@@ -37,6 +39,14 @@ use Rattle.answer_desk.specs.declared.Answered.{Answered}
 use Rattle.answer_desk.specs.Days.{Outcome, AnswersEvent, EventAnswered, filing_outcome, withdrawal_outcome, boarding_outcome, rows_lent}
 use Rattle.boundary.proofs.Plans.{plan_placed}
 use Rattle.boundary_desk.specs.Records.{places_if}
+
+-- A verdict told is an error where it refuses.
+pub told_says : (v : Verdict) (r : Result Unit Verdict) → r ≡ checked v → is_err r ≡ is_refusal v.refusal
+told_says v r e = go (is_refusal v.refusal) refl
+  where
+    go : (b : Bool) → is_refusal v.refusal ≡ b → is_err r ≡ is_refusal v.refusal
+    go true h = rw (e, h) refl
+    go false h = rw (e, h) refl
 
 -- A row of records that counts for 32 places has them, and the row beside it is long enough.
 pub record Long (least : ℕ) (words : List ℕ) (len : ℕ) : Type 0 where
@@ -149,26 +159,26 @@ module _ (day : Day) (o : Outcome) (room out : List ℕ) (r : Answered) (room' o
       (true_or_false (is_refusal o.verdict.refusal))
 
 module _ (len : ℕ) (tape : Tape) (day : Day) (room out : List ℕ) where
-  pub event_near : (e : Event) (r : Answered) (room' out' : List ℕ) → EventAnswered len tape day room out e r room' out' → r.verdict.place ≤ place_most
-  event_near (Event.File office file count) r room' out' p =
+  pub event_near : (e : Option Event) (r : Answered) (room' out' : List ℕ) → EventAnswered len tape day room out e r room' out' → r.verdict.place ≤ place_most
+  event_near (Some (Event.File office file count)) r room' out' p =
       let f : Filing = record { office = office; file = file; count = count; files = length tape.starts; lasts = day.lasts } in
       outcome_near day (filing_outcome f (file_row len day.row f) room) room out r room out' (p.0 room) (filing_near len day.row f (file_row len day.row f) refl)
-  event_near (Event.Withdraw office number) r room' out' p =
+  event_near (Some (Event.Withdraw office number)) r room' out' p =
       let w : Withdrawal = record { office = office; number = number; lasts = day.lasts } in
       outcome_near day (withdrawal_outcome w (withdraw_row len day.row w) room) room out r room out' (p.0 room) (withdrawal_near len day.row w (withdraw_row len day.row w) refl)
-  event_near (Event.Board head turn) r room' out' p =
+  event_near (Some (Event.Board head turn)) r room' out' p =
       outcome_near day (boarding_outcome day.row p.done p.rows) room out r room' out' p.answers
       (boarding_near len tape day.row (record { head = head; turn = turn; lasts = day.lasts }) (rows_lent room) p.done p.rows p.boards)
-  event_near Event.Bad r room' out' p = rw p.says (omega arith)
+  event_near None r room' out' p = rw p.says (omega arith)
 
-  pub event_long : (e : Event) (r : Answered) (room' out' : List ℕ) → EventAnswered len tape day room out e r room' out' → is_refusal r.verdict.refusal ≡ false → 32 ≤ len
-  event_long (Event.File office file count) r room' out' p e =
+  pub event_long : (e : Option Event) (r : Answered) (room' out' : List ℕ) → EventAnswered len tape day room out e r room' out' → is_refusal r.verdict.refusal ≡ false → 32 ≤ len
+  event_long (Some (Event.File office file count)) r room' out' p e =
       let f : Filing = record { office = office; file = file; count = count; files = length tape.starts; lasts = day.lasts } in
       filing_long len day.row f (file_row len day.row f) refl (outcome_accepted day (filing_outcome f (file_row len day.row f) room) room out r room out' (p.0 room) e)
-  event_long (Event.Withdraw office number) r room' out' p e =
+  event_long (Some (Event.Withdraw office number)) r room' out' p e =
       let w : Withdrawal = record { office = office; number = number; lasts = day.lasts } in
       withdrawal_long len day.row w (withdraw_row len day.row w) refl (outcome_accepted day (withdrawal_outcome w (withdraw_row len day.row w) room) room out r room out' (p.0 room) e)
-  event_long (Event.Board head turn) r room' out' p e =
+  event_long (Some (Event.Board head turn)) r room' out' p e =
       boarding_long len tape day.row (record { head = head; turn = turn; lasts = day.lasts }) (rows_lent room) p.done p.rows p.boards
       (outcome_accepted day (boarding_outcome day.row p.done p.rows) room out r room' out' p.answers e)
-  event_long Event.Bad r room' out' p e = absurd (true≢false (ap (λ (x : Answered). is_refusal x.verdict.refusal) (sym p.says) ∙ e))
+  event_long None r room' out' p e = absurd (true≢false (ap (λ (x : Answered). is_refusal x.verdict.refusal) (sym p.says) ∙ e))

@@ -1,19 +1,16 @@
 -- Rows of records and of words: the table in a row, and a row whose first entries are being written.
-use Prim.Native.Nat.{ℕ, zero, suc, ◌+◌, ◌-◌, ◌≤◌, ◌<◌}
-use mathlib.Core.Path.{◌≡◌, refl, sym, ap, subst, ◌∙◌}
+use Prim.Native.Nat.{ℕ, suc, ◌+◌, ◌-◌, ◌≤◌, ◌<◌}
+use mathlib.Core.Path.{◌≡◌, refl, sym, ap, ◌∙◌}
 use mathlib.Core.Logic.{by_cases}
-use mathlib.Core.Bool.{Bool, true, false, cond, ◌&&◌}
 use mathlib.Core.List.{List, [], ◌∷◌, ◌++◌, map, append-nil}
 use native.Mathlib.Decide.{dec_lt}
 use native.Mathlib.Numerals.{add-one}
 use native.Mathlib.Omega.{arith}
 use lib.ListN.{length, get_or, take, drop, set, replicate, length-set, length-map, length-replicate, length-append, get_or-replicate, drop_of_length-le, get_or-append, get_or-map, get_or-eq_default}
 use lib.Seq.{paste, paste-zero, paste-suc, take_all, length-take-le, drop-cons, get_or-append-add}
-use Rattle.text_bytes.specs.Text.{line_feed, has, behind, is_empty}
-use Rattle.text_bytes.specs.declared.Found.{Found}
-use Rattle.text_bytes.specs.Found.{FirstAt, FoundIn}
+use Rattle.text_bytes.specs.Text.{line_feed, behind}
+use Rattle.text_bytes.specs.Found.{FirstAt}
 use Rattle.desk_tickets.specs.declared.Ticket.{Ticket}
-use Rattle.desk_tickets.specs.declared.Lasts.{Lasts}
 use Rattle.desk_tickets.specs.WaitingTable.{no_ticket}
 use Rattle.boundary_desk.specs.Records.{words_of, ticket_in, table_at, records_with}
 use Rattle.boundary_desk.specs.Calls.{one_line}
@@ -24,16 +21,9 @@ two_set x y [] l = absurd (omega arith)
 two_set x y (a ∷ []) l = absurd (omega arith)
 two_set x y (a ∷ b ∷ row) l = refl
 
-pub two_set_long : (x y : ℕ) (row : List ℕ) → length (set (set row 0 x) 1 y) ≡ length row
-two_set_long x y row = length-set (set row 0 x) 1 y ∙ length-set row 0 x
-
 pub one_set : (x : ℕ) (row : List ℕ) → 1 ≤ length row → set row 0 x ≡ x ∷ drop 1 row
 one_set x [] l = absurd (omega arith)
 one_set x (a ∷ row) l = refl
-
--- The last numbers from their two words.
-pub lasts_so : {x y a b : ℕ} → x ≡ a → y ≡ b → ◌≡◌ {A = Lasts} (record { one = x; two = y }) (record { one = a; two = b })
-lasts_so p q = cc
 
 -- Behind a row's end stands an empty place.
 pub record_past : (rows : List (List ℕ)) (i : ℕ) → length rows ≤ i → no_ticket ≡ ticket_in (get_or rows i [])
@@ -138,23 +128,9 @@ module _ (before : List (List ℕ)) (table : List Ticket) where
         let last : i ≡ 32 = omega (arith, p.within) in
         p.is ∙ ap (λ k. paste before 0 (map words_of table) k) last ∙ table_written before table all
 
--- Bytes that are one line, and those that are not.
-module _ (bytes : List ℕ) where
-  pub no_line : (found : Found) → FoundIn line_feed bytes found → found ≡ Found.Nowhere → take 0 bytes ≡ one_line bytes
-  no_line found p e = let none : has line_feed bytes ≡ false = subst (λ f. FoundIn line_feed bytes f) e p in rw none refl
-
-  pub line_ends : (found : Found) → FoundIn line_feed bytes found → (i : ℕ) → found ≡ Found.At i → FirstAt line_feed bytes i
-  line_ends found p i e = subst (λ f. FoundIn line_feed bytes f) e p
-
-  module _ (i : ℕ) (at : FirstAt line_feed bytes i) where
-    pub line_whole : i + 1 ≡ length bytes → take (length bytes) bytes ≡ one_line bytes
-    line_whole e =
-        let past : length bytes ≤ i + 1 = omega arith in
-        let over : behind line_feed bytes ≡ [] = at.back ∙ drop_of_length-le bytes past in
-        take_all (length bytes) bytes (omega arith) ∙ rw (at.stands, over) refl
-
-    pub line_goes_on : (i + 1 ≡ length bytes → ⊥) → take 0 bytes ≡ one_line bytes
-    line_goes_on ne =
-        let inside : i + 1 < length bytes = omega (arith, at.within, ne) in
-        let more : behind line_feed bytes ≡ get_or bytes (i + 1) 0 ∷ drop (suc (i + 1)) bytes = at.back ∙ drop-cons bytes (i + 1) 0 inside in
-        rw (at.stands, more) refl
+-- Bytes that go on behind their first line.
+pub line_goes_on : (bytes : List ℕ) (i : ℕ) → FirstAt line_feed bytes i → (i + 1 ≡ length bytes → ⊥) → take 0 bytes ≡ one_line bytes
+line_goes_on bytes i at ne =
+    let inside : i + 1 < length bytes = omega (arith, at.within, ne) in
+    let more : behind line_feed bytes ≡ get_or bytes (i + 1) 0 ∷ drop (suc (i + 1)) bytes = at.back ∙ drop-cons bytes (i + 1) 0 inside in
+    rw (at.stands, more) refl

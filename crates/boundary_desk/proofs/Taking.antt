@@ -1,14 +1,13 @@
 -- Who has left: the places of wants put into a row, one behind the other.
-use Prim.Native.Nat.{ℕ, zero, suc, ◌+◌, ◌-◌, ◌≤◌, ◌<◌, min}
-use mathlib.Core.Path.{◌≡◌, refl, sym, ap, subst, ◌∙◌}
-use mathlib.Core.Bool.{Bool, true, false}
-use mathlib.Core.List.{List, [], ◌∷◌, ◌++◌, map, map-append}
+use Prim.Native.Nat.{ℕ, suc, ◌+◌, ◌≤◌, ◌<◌}
+use mathlib.Core.Path.{◌≡◌, refl, sym, ap, ◌∙◌}
+use mathlib.Core.Bool.{false}
+use mathlib.Core.List.{List, ◌∷◌, ◌++◌, map, map-append}
 use native.Mathlib.Numerals.{add-one}
 use native.Mathlib.Omega.{arith}
 use lib.ListN.{length, get_or, take, drop, set, length-set, length-map, length-append, length-drop, get_or-map}
-use lib.Seq.{paste, paste-zero, paste-suc, take-paste, drop-paste, length-paste, take_all, length-take-le, get_or-take, get_or-drop, drop-drop}
+use lib.Seq.{paste, paste-zero, paste-suc, take-paste, drop-paste, take_all, length-take-le, get_or-take, get_or-drop, drop-drop}
 use Rattle.refusals.specs.Refusals.{is_refusal}
-use Rattle.refusals.proofs.Verdicts.{refuses}
 use Rattle.planner.specs.Rows.{Rows}
 use Rattle.desk_tickets.specs.declared.Ticket.{Ticket}
 use Rattle.desk_tickets.specs.WaitingTable.{no_ticket, waiting}
@@ -46,9 +45,6 @@ module _ (before : List ℕ) (at : ℕ) (s : List ℕ) (n : ℕ) where
               ∙ paste-suc before at s i z (omega arith) (omega (arith, all))
               ∙ ap (λ k. paste before at s k) (sym (add-one i));
         }
-
-    pub placing_all : n ≤ i → row ≡ paste before at s n
-    placing_all l = let last : i ≡ n = omega (arith, p.within) in p.is ∙ ap (λ k. paste before at s k) last
 
 -- The tickets of n places, and the place of each one's want.
 module _ (numbers : List ℕ) (row : List Ticket) (all : length row ≡ 32) (first n : ℕ) (fits : first + n ≤ 32) where

@@ -1,20 +1,19 @@
 -- The contract of the call that tells who waits, from the promise of what it calls.
 use Prim.Native.Nat.{ℕ, ◌≤◌}
-use mathlib.Core.Path.{◌≡◌, refl, sym, ap, subst, ◌∙◌}
-use mathlib.Core.Bool.{Bool, true, false, cond}
+use mathlib.Core.Path.{◌≡◌, refl, sym, ap, ◌∙◌}
+use mathlib.Core.Bool.{Bool, true, false}
 use mathlib.Core.Logic.{⊎_elim}
 use mathlib.Core.List.{List, [], ◌∷◌}
-use native.Mathlib.Omega.{arith}
 use lib.ListN.{length}
 use lib.Dec.{ltb}
 use Rattle.refusals.specs.declared.Refusal.TheVariants.{Accepted, ShortRow}
 use Rattle.refusals.specs.declared.Verdict.{Verdict}
-use Rattle.refusals.specs.Refusals.{is_refusal, accepted, first_of, refuse_if}
+use Rattle.refusals.specs.Refusals.{is_refusal, accepted}
 use Rattle.refusals.proofs.Verdicts.{refuses, none_refuses, all_accept}
 use Rattle.runs.proofs.Search.{true_or_false}
 use Rattle.walk.proofs.Places.{place_most, first_near, if_near}
 use Rattle.sheet_writer.specs.declared.Written.{Written}
-use Rattle.sheet_writer.specs.Writing.{row_verdict, refused_writing, written_answer, written_row, Handed}
+use Rattle.sheet_writer.specs.Writing.{row_verdict, refused_writing, written_answer}
 use Rattle.desk_tickets.specs.declared.Ticket.{Ticket}
 use Rattle.desk_tickets.specs.WaitingTable.{records_verdict}
 use Rattle.desk_waits.specs.Waits.{any_lasts, waiting_text, waiting_verdict, WaitingTold}

@@ -15,9 +15,8 @@ ghost use Rattle.boundary_desk.specs.Calls.{filing_of, withdrawal_of, want_place
 
 use answer_desk::Day;
 use desk_boardings::{Boarded, BoardedRow, Boarding};
-use desk_tickets::{Filing, Lasts, Ticket, Withdrawal};
-use refusals::{Verdict, refused};
-use text_bytes::Found;
+use desk_tickets::{Filing, Lasts, NO_TICKET, Ticket, Withdrawal};
+use refusals::Verdict;
 use walk::Answer;
 
 // A verdict's code: 0, or a refusal's number plus 256 times its place.
@@ -33,20 +32,14 @@ fn code_of(v: Verdict) -> u64
 fn record_at(tickets: &[[u64; 4]], i: usize) -> Ticket
     ensures { result ≡ ticket_in (get_or tickets.now i []) }
 {
-    if i < tickets.len() {
-        let words = tickets[i];
-        return Ticket {
-            office: words[0],
-            file: words[1],
-            count: words[2],
-            number: words[3],
-        };
-    }
+    let Some(words) = tickets.get(i) else {
+        return NO_TICKET;
+    };
     Ticket {
-        office: 0,
-        file: 0,
-        count: 0,
-        number: 0,
+        office: words[0],
+        file: words[1],
+        count: words[2],
+        number: words[3],
     }
 }
 
@@ -54,18 +47,9 @@ fn record_at(tickets: &[[u64; 4]], i: usize) -> Ticket
 fn table_at(tickets: &[[u64; 4]]) -> [Ticket; 32]
     ensures { result ≡ table_at tickets.now }
 {
-    let none = Ticket {
-        office: 0,
-        file: 0,
-        count: 0,
-        number: 0,
-    };
-    let mut row = [none; 32];
-    let mut i: usize = 0;
-    while i < 32 {
-        let t = record_at(tickets, i);
-        row[i] = t;
-        i += 1;
+    let mut row = [NO_TICKET; 32];
+    for i in 0..32 {
+        row[i] = record_at(tickets, i);
     }
     row
 }
@@ -82,12 +66,8 @@ fn put_table(tickets: &mut [[u64; 4]], row: [Ticket; 32])
     requires { 32 ≤ length tickets.old }
     ensures { tickets.new ≡ records_with row tickets.old }
 {
-    let mut i: usize = 0;
-    while i < 32 {
-        let t = row[i];
-        let words = words_of(t);
-        tickets[i] = words;
-        i += 1;
+    for i in 0..32 {
+        tickets[i] = words_of(row[i]);
     }
 }
 
@@ -95,10 +75,7 @@ fn put_table(tickets: &mut [[u64; 4]], row: [Ticket; 32])
 fn word_at(words: &[u64], i: usize) -> u64
     ensures { result ≡ get_or words.now i 0 }
 {
-    if i < words.len() {
-        return words[i];
-    }
-    0
+    words.get(i).copied().unwrap_or(0)
 }
 
 // The last numbers in a row.
@@ -156,7 +133,7 @@ pub extern "C" fn violstream_file(
     let filed = done.filed;
     let verdict = filed.verdict;
     let code = code_of(verdict);
-    if refused(verdict) {
+    if verdict.told().is_err() {
         return code;
     }
     let next = done.row;
@@ -189,7 +166,7 @@ pub extern "C" fn violstream_withdraw(
     let withdrawn = done.withdrawn;
     let verdict = withdrawn.verdict;
     let code = code_of(verdict);
-    if refused(verdict) {
+    if verdict.told().is_err() {
         return code;
     }
     let next = done.row;
@@ -201,12 +178,10 @@ pub extern "C" fn violstream_withdraw(
 fn want_place(file: u64, numbers: [u64; 8]) -> u64
     ensures { result ≡ suc (place_in file numbers) }
 {
-    let mut i: usize = 0;
-    while i < 8 {
-        if numbers[i] == file {
+    for (i, number) in numbers.iter().enumerate() {
+        if *number == file {
             return (i + 1) as u64;
         }
-        i += 1;
     }
     9
 }
@@ -224,12 +199,8 @@ fn put_places(
     requires n_in_bounds { at + n ≤ length taken.old }
     ensures { taken.new ≡ paste taken.old at (places_of numbers (take n (drop first row))) n }
 {
-    let mut i: usize = 0;
-    while i < n {
-        let t = row[first + i];
-        let place = want_place(t.file, numbers);
-        taken[at + i] = place;
-        i += 1;
+    for i in 0..n {
+        taken[at + i] = want_place(row[first + i].file, numbers);
     }
 }
 
@@ -249,6 +220,7 @@ fn put_taken(taken: &mut [u64], row: [Ticket; 32], boarded: Boarded)
 }
 
 // The four words of an accepted boarding's plan.
+// Stays: as in boundary, where it is private: a public function asks no room of a row.
 fn fill_sums(a: Answer, sums: &mut [u64])
     requires { 4 ≤ length sums.old }
     ensures { sums.new ≡ sums_with a sums.old }
@@ -278,7 +250,7 @@ fn settle(
         place: answer.place,
     };
     let code = code_of(verdict);
-    if refused(verdict) {
+    if verdict.told().is_err() {
         return code;
     }
     let next = done.row;
@@ -339,7 +311,7 @@ fn one_line(line: &[u8]) -> usize
     ensures line_value { take result line.now ≡ one_line line.now }
     ensures upper_bound { result ≤ length line.now }
 {
-    let Found::At(end) = text_bytes::find(line, 10) else {
+    let Some(end) = text_bytes::find(line, b'\n') else {
         return 0;
     };
     if end + 1 == line.len() {
@@ -384,7 +356,7 @@ pub extern "C" fn violstream_event(
     );
     let verdict = done.verdict;
     let code = code_of(verdict);
-    if refused(verdict) {
+    if verdict.told().is_err() {
         return code;
     }
     let after = done.day;
@@ -410,7 +382,7 @@ pub extern "C" fn violstream_waiting(tickets: &[[u64; 4]], out: &mut [u8], sizes
         place: told.place,
     };
     let code = code_of(verdict);
-    if refused(verdict) {
+    if verdict.told().is_err() {
         return code;
     }
     sizes[0] = told.bytes;

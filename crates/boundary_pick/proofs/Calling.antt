@@ -1,5 +1,5 @@
 -- What the call finds and leaves, from what is answered below it.
-use Prim.Native.Nat.{ℕ, zero, suc, ◌+◌, ◌*◌, ◌≤◌, ◌<◌, min}
+use Prim.Native.Nat.{ℕ, zero, suc, ◌+◌, ◌*◌, ◌≤◌, ◌<◌}
 use mathlib.Core.Path.{◌≡◌, refl, ap, sym, ◌∙◌}
 use mathlib.Core.Bool.{Bool, true, false, cond, ◌||◌}
 use mathlib.Core.List.{List, [], ◌∷◌, ◌++◌}
@@ -20,14 +20,8 @@ use Rattle.answer_pick.specs.Answer.{asked_starts, entries_refused, rows_refused
 use Rattle.answer_pick.specs.Applies.{FirstToApply, none, here, later}
 use Rattle.answer_pick.proofs.First.{refuses_the_first}
 use Rattle.answer_pick.proofs.Promised.{first_parts, if_not, accepts_all}
-use Rattle.boundary_pick.specs.Calls.{place_most, pick_code, is_short, PickCalled}
+use Rattle.boundary_pick.specs.Calls.{pick_code, is_short, PickCalled}
 use Rattle.boundary_pick.specs.Private.{ShortPicked}
-
-pub place_near : (place : ℕ) → place < place_most → place ≡ min place place_most
-place_near place l = omega arith
-
-pub place_far : (place : ℕ) → place_most ≤ place → place_most ≡ min place place_most
-place_far place l = omega arith
 
 -- No number of the order is above 44.
 abbrev AllSmall : List ℕ → Type 0

@@ -14,10 +14,7 @@ const PLACE_MOST: u64 = 72057594037927935;
 fn told_place(place: u64) -> u64
     ensures { result ≡ min place place_most }
 {
-    if place < PLACE_MOST {
-        return place;
-    }
-    PLACE_MOST
+    place.min(PLACE_MOST)
 }
 
 // An answer's code: 0, or a refusal's number plus 256 times its place.

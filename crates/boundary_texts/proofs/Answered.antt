@@ -1,7 +1,7 @@
 -- The contracts of the calls that write one text, from the promise of the answer by value.
 use Prim.Native.Nat.{ℕ, ◌≤◌, ◌<◌}
 use mathlib.Core.Path.{◌≡◌, refl, sym, ap, ◌∙◌}
-use mathlib.Core.Bool.{Bool, true, false, cond, ◌||◌, true≢false}
+use mathlib.Core.Bool.{Bool, true, false, cond, ◌||◌}
 use mathlib.Core.Logic.{⊎_elim}
 use mathlib.Core.List.{List, [], ◌∷◌}
 use native.Mathlib.Omega.{arith}
@@ -10,7 +10,9 @@ use lib.Dec.{ltb}
 use borrow.Author.Tests.{lt-ltb, le-ltb}
 use Rattle.refusals.specs.declared.Refusal.TheVariants.{ShortRow, ShortRoom}
 use Rattle.refusals.specs.declared.Verdict.{Verdict}
-use Rattle.refusals.specs.Refusals.{is_refusal}
+use Rattle.refusals.specs.Refusals.{is_refusal, checked}
+use Rattle.std.specs.Prelude.{Result}
+use Rattle.std.specs.Result.{is_err}
 use Rattle.runs.proofs.Search.{true_or_false}
 use Rattle.walk.proofs.Places.{place_most, if_near}
 use Rattle.planner.specs.Plan.{room_for}
@@ -29,6 +31,14 @@ use Rattle.promises.proofs.Lengths.{verdict_near}
 use Rattle.promises.proofs.InputLengths.{check_checks_near}
 use Rattle.boundary_texts.specs.Texts.{text_verdict, TextCalled, SheetCalled, AnswerCalled, BuysCalled, CheckCalled}
 use Rattle.boundary_texts.specs.Private.{written_verdict, Told}
+
+-- A verdict told is an error where it refuses.
+pub told_says : (v : Verdict) (r : Result Unit Verdict) → r ≡ checked v → is_err r ≡ is_refusal v.refusal
+told_says v r e = go (is_refusal v.refusal) refl
+  where
+    go : (b : Bool) → is_refusal v.refusal ≡ b → is_err r ≡ is_refusal v.refusal
+    go true h = rw (e, h) refl
+    go false h = rw (e, h) refl
 
 one_set : (x : ℕ) (row : List ℕ) → 1 ≤ length row → set row 0 x ≡ x ∷ drop 1 row
 one_set x [] l = absurd (omega arith)

@@ -6,11 +6,9 @@ ghost use Rattle.std.specs.Prelude.{◌≡◌, ◌≤◌, cond, length};
 ghost use Rattle.refusals.specs.Refusals.{is_refusal};
 ghost use Rattle.boundary.specs.Boundary.{code_of};
 ghost use Rattle.boundary_texts.specs.Texts.{AnswerCalled, BuysCalled, CheckCalled, MendCalled};
-ghost use Rattle.boundary_texts.specs.Private.{written_verdict, mended_verdict, Told, BothTold};
+ghost use Rattle.boundary_texts.specs.Private.{Told, BothTold};
 
-use answer_mend::Mended;
-use refusals::{Verdict, refused};
-use sheet_writer::Written;
+use refusals::{Refusal, Verdict};
 
 // A verdict's code: 0, or a refusal's number plus 256 times its place.
 fn code_of(v: Verdict) -> u64
@@ -21,26 +19,11 @@ fn code_of(v: Verdict) -> u64
     refusals::number(kind) + 256 * v.place
 }
 
-// The verdict in what was written.
-fn verdict_of(written: Written) -> Verdict
-    ensures { result ≡ written_verdict written }
+// The verdict in what was written, or mended.
+fn verdict_of(refusal: Refusal, place: u64) -> Verdict
+    ensures { result ≡ record { refusal = refusal; place = place } }
 {
-    let kind = written.refusal;
-    Verdict {
-        refusal: kind,
-        place: written.place,
-    }
-}
-
-// The verdict in what was mended.
-fn verdict_in(mended: Mended) -> Verdict
-    ensures { result ≡ mended_verdict mended }
-{
-    let kind = mended.refusal;
-    Verdict {
-        refusal: kind,
-        place: mended.place,
-    }
+    Verdict { refusal, place }
 }
 
 // The code where there is no row for a text's length: 8 behind all other refusals.
@@ -49,7 +32,7 @@ fn short_code(v: Verdict) -> u64
     ensures { result ≡ cond (is_refusal v.refusal) (code_of v) 8 }
 {
     let code = code_of(v);
-    if refused(v) {
+    if v.told().is_err() {
         return code;
     }
     8
@@ -62,7 +45,7 @@ fn tell(v: Verdict, bytes: u64, sizes: &mut [u64]) -> u64
     ensures { Told v bytes sizes.old result sizes.new }
 {
     let code = code_of(v);
-    if refused(v) {
+    if v.told().is_err() {
         return code;
     }
     sizes[0] = bytes;
@@ -76,7 +59,7 @@ fn tell_both(v: Verdict, mended: u64, noted: u64, sizes: &mut [u64]) -> u64
     ensures { BothTold v mended noted sizes.old result sizes.new }
 {
     let code = code_of(v);
-    if refused(v) {
+    if v.told().is_err() {
         return code;
     }
     sizes[0] = mended;
@@ -97,10 +80,14 @@ pub extern "C" fn violstream_answer(
     if sizes.len() < 1 {
         let mut none = [0u8; 0];
         let unwritten = answer_any::answer(sheet, &mut none, room);
-        return short_code(verdict_of(unwritten));
+        return short_code(verdict_of(unwritten.refusal, unwritten.place));
     }
     let written = answer_any::answer(sheet, out, room);
-    tell(verdict_of(written), written.bytes, sizes)
+    tell(
+        verdict_of(written.refusal, written.place),
+        written.bytes,
+        sizes,
+    )
 }
 
 // The figure sheet of a run sheet's plan, with the head anywhere.
@@ -116,10 +103,14 @@ pub extern "C" fn violstream_buys(
     if sizes.len() < 1 {
         let mut none = [0u8; 0];
         let unwritten = answer_buys_any::answer(sheet, &mut none, room);
-        return short_code(verdict_of(unwritten));
+        return short_code(verdict_of(unwritten.refusal, unwritten.place));
     }
     let figured = answer_buys_any::answer(sheet, out, room);
-    tell(verdict_of(figured), figured.bytes, sizes)
+    tell(
+        verdict_of(figured.refusal, figured.place),
+        figured.bytes,
+        sizes,
+    )
 }
 
 // The verdict on a plan sheet, for a run sheet, with the head anywhere. A `no` is an answer.
@@ -136,10 +127,14 @@ pub extern "C" fn violstream_check(
     if sizes.len() < 1 {
         let mut none = [0u8; 0];
         let unwritten = answer_check::check(sheet, plan, &mut none, room);
-        return short_code(verdict_of(unwritten));
+        return short_code(verdict_of(unwritten.refusal, unwritten.place));
     }
     let checked = answer_check::check(sheet, plan, out, room);
-    tell(verdict_of(checked), checked.bytes, sizes)
+    tell(
+        verdict_of(checked.refusal, checked.place),
+        checked.bytes,
+        sizes,
+    )
 }
 
 // A run sheet mended, and a line for each change.
@@ -156,8 +151,13 @@ pub extern "C" fn violstream_mend(
         let mut none = [0u8; 0];
         let mut nothing = [0u8; 0];
         let unmended = answer_mend::mend(sheet, &mut none, &mut nothing);
-        return short_code(verdict_in(unmended));
+        return short_code(verdict_of(unmended.refusal, unmended.place));
     }
     let mended = answer_mend::mend(sheet, out, changes);
-    tell_both(verdict_in(mended), mended.bytes, mended.noted, sizes)
+    tell_both(
+        verdict_of(mended.refusal, mended.place),
+        mended.bytes,
+        mended.noted,
+        sizes,
+    )
 }

@@ -23,6 +23,7 @@ const AGGREGATES: [u64; 20] = [
 ];
 
 // The table of both offices, the last numbers given, and the number that the answers have gone into.
+// Stays: rows of an array, since the record is copied, and the house works without a heap.
 #[derive(Clone, Copy)]
 pub struct Day {
     pub table: [Ticket; 32],
@@ -40,28 +41,15 @@ fn mixed(before: u64, value: u64) -> u64 {
     (before % 2147483647 * 31 + value % 2147483647) % 2147483647
 }
 
-// The first n of eight numbers.
-fn mixed_first(before: u64, row: [u64; 8], n: usize) -> u64 {
-    let mut sum = before;
-    let mut i: usize = 0;
-    while i < n {
-        sum = mixed(sum, row[i % 8]);
-        i += 1;
-    }
-    sum
-}
-
-fn mixed_row(before: u64, row: [u64; 8]) -> u64 {
-    mixed_first(before, row, 8)
+// Some numbers, one after the other.
+fn mixed_all(before: u64, row: &[u64]) -> u64 {
+    row.iter().fold(before, |sum, value| mixed(sum, *value))
 }
 
 fn mixed_table(before: u64, table: [Ticket; 32]) -> u64 {
     let mut sum = before;
-    let mut i: usize = 0;
-    while i < 32 {
-        let t = table[i];
-        sum = mixed_first(sum, [t.office, t.file, t.count, t.number, 0, 0, 0, 0], 4);
-        i += 1;
+    for t in &table {
+        sum = mixed_all(sum, &[t.office, t.file, t.count, t.number]);
     }
     sum
 }
@@ -75,7 +63,7 @@ fn damaged(table: [Ticket; 32], a: u64, b: u64) -> [Ticket; 32] {
         office: b % 4,
         file: b / 4 % 8 * 700,
         count: b / 32 % 8 * 20,
-        number: std::num::wrapping_add_u64(t.number, b / 256 % 4 / 3),
+        number: t.number.wrapping_add(b / 256 % 4 / 3),
     };
     other
 }
@@ -107,14 +95,11 @@ fn file(day: Day, len: usize, filing: Filing) -> Day {
         answer.number,
         lasts.one,
         lasts.two,
-        0,
-        0,
-        0,
     ];
     Day {
         table: after,
         lasts,
-        sum: mixed_table(mixed_first(day.sum, told, 5), after),
+        sum: mixed_table(mixed_all(day.sum, &told), after),
     }
 }
 
@@ -123,7 +108,7 @@ fn withdrawal_of(a: u64, b: u64, lasts: Lasts) -> Withdrawal {
     let last = if a % 2 == 1 { lasts.two } else { lasts.one };
     Withdrawal {
         office: 1 + a % 2 + a / 8 % 16 / 15 * 4,
-        number: std::num::wrapping_sub_u64(last, b % 24),
+        number: last.wrapping_sub(b % 24),
         lasts,
     }
 }
@@ -136,20 +121,11 @@ fn withdraw(day: Day, len: usize, withdrawal: Withdrawal) -> Day {
     let kind = verdict.refusal;
     let lasts = answer.lasts;
     let after = done.row;
-    let told = [
-        number(kind),
-        verdict.place,
-        lasts.one,
-        lasts.two,
-        0,
-        0,
-        0,
-        0,
-    ];
+    let told = [number(kind), verdict.place, lasts.one, lasts.two];
     Day {
         table: after,
         lasts,
-        sum: mixed_table(mixed_first(day.sum, told, 4), after),
+        sum: mixed_table(mixed_all(day.sum, &told), after),
     }
 }
 
@@ -173,9 +149,9 @@ fn mixed_boarding(before: u64, done: BoardedRow) -> u64 {
         taken.one as u64,
         taken.two as u64,
     ];
-    let more = [wants.k as u64, lasts.one, lasts.two, 0, 0, 0, 0, 0];
-    let sum = mixed_first(mixed_row(before, told), more, 3);
-    mixed_row(mixed_row(sum, numbers), counts)
+    let more = [wants.k as u64, lasts.one, lasts.two];
+    let sum = mixed_all(mixed_all(before, &told), &more);
+    mixed_all(mixed_all(sum, &numbers), &counts)
 }
 
 // The rows that were lent, of the room three words.
@@ -185,10 +161,10 @@ fn mixed_rows(
     tos: [u64; 8],
     times: [u64; 8],
     legs: [u64; 8],
-    words: [u64; 8],
+    words: [u64; 3],
 ) -> u64 {
-    let list = mixed_row(mixed_row(before, froms), tos);
-    mixed_first(mixed_row(mixed_row(list, times), legs), words, 3)
+    let list = mixed_all(mixed_all(before, &froms), &tos);
+    mixed_all(mixed_all(mixed_all(list, &times), &legs), &words)
 }
 
 // Long room comes from a function of its own: where a row is made and lent in one, the check counts its entries one by one.
@@ -218,7 +194,7 @@ fn board(day: Day, len: usize, boarding: Boarding, entries: usize, words: usize)
         &mut legs[..n],
         &mut room[..w],
     );
-    let seen = [room[0], room[63], room[199], 0, 0, 0, 0, 0];
+    let seen = [room[0], room[63], room[199]];
     let sum = mixed_rows(mixed_boarding(day.sum, done), froms, tos, times, legs, seen);
     let after = done.row;
     let answer = done.boarded;
@@ -287,10 +263,8 @@ fn event(day: Day, i: u64) -> Day {
 
 fn fifty(morning: Day, first: u64) -> Day {
     let mut day = morning;
-    let mut i: u64 = 1;
-    while i <= 50 {
-        day = event(day, std::num::wrapping_add_u64(first, i));
-        i += 1;
+    for i in 1..=50 {
+        day = event(day, first.wrapping_add(i));
     }
     day
 }
@@ -309,13 +283,11 @@ fn main() {
         },
         sum: 0,
     };
-    let mut first: u64 = 0;
-    while first < 1500 {
+    for first in (0..1500).step_by(50) {
         day = fifty(day, first);
         io::print_decimal(STDOUT, first + 1);
         io::write_all(STDOUT, b": ");
         io::print_decimal(STDOUT, day.sum);
         io::write_all(STDOUT, b"\n");
-        first += 50;
     }
 }

@@ -4,7 +4,8 @@
 
 ghost use Rattle.std.specs.Prelude.{◌<◌};
 
-use refusals::{Verdict, refused};
+use refusals::Verdict;
+use sheet_runs::entries;
 use sheet_writer::Written;
 use text_inputs::front;
 
@@ -19,30 +20,13 @@ fn next(number: u64) -> u64 {
     number % 2147483647 * 48271 % 2147483647
 }
 
-fn number_of(byte: u8) -> u64
-    ensures { result < 256 }
-{
-    byte as u64
-}
-
 // A text's bytes, one after the other, into a number below 2^31 - 1.
 fn mixed(text: &[u8], before: u64) -> u64 {
     let mut sum = before;
-    let mut i: usize = 0;
-    while i < text.len() {
-        sum = (sum % 2147483647 * 31 + number_of(text[i])) % 2147483647;
-        i += 1;
+    for byte in text {
+        sum = (sum % 2147483647 * 31 + u64::from(*byte)) % 2147483647;
     }
     sum
-}
-
-// The first n entries of a list's row.
-fn entries(row: &[u64], n: usize) -> &[u64] {
-    let start: usize = 0;
-    if n <= row.len() {
-        return &row[start..n];
-    }
-    row
 }
 
 // Six numbers from 1 on, each up to the same, drawn by one.
@@ -51,11 +35,9 @@ fn six(number: u64, most: u64) -> [u64; 6]
 {
     let mut row = [0u64; 6];
     let mut rest = number;
-    let mut i: usize = 0;
-    while i < 6 {
-        row[i] = std::num::wrapping_add_u64(rest % most, 1);
-        rest = rest / most;
-        i += 1;
+    for entry in &mut row {
+        *entry = (rest % most).wrapping_add(1);
+        rest /= most;
     }
     row
 }
@@ -67,10 +49,10 @@ fn answered(sheet: Written, out: &mut [u8]) -> u64 {
         refusal,
         place: sheet.place,
     };
-    if refused(verdict) {
-        return sheet_writer::write_refusal(verdict, out).bytes;
+    match verdict.told() {
+        Ok(()) => sheet.bytes,
+        Err(verdict) => sheet_writer::write_refusal(verdict, out).bytes,
     }
-    sheet.bytes
 }
 
 // Six wanted files, in every fourth run two of them in one aggregate, and up to three detours: drawn by three numbers.
@@ -83,7 +65,7 @@ fn show(a: u64, b: u64, c: u64, before: u64) -> u64 {
     let second = 3 + c / 2 % 2;
     let froms = [first, second, 2];
     let tos = [first + c / 4 % 2, second + c / 8 % 4, 2 + c / 32 % 5];
-    let n = (c / 256 % 4) as usize;
+    let n = c / 256 % 4;
     let mut out = [0u8; 4492];
     let sheet = sheet_figures::write_figures(
         b"D",
@@ -105,23 +87,19 @@ fn show(a: u64, b: u64, c: u64, before: u64) -> u64 {
 // Fifty lists, from a number on.
 fn fifty(first: u64) -> u64 {
     let mut sum: u64 = 0;
-    let mut i: u64 = 1;
-    while i <= 50 {
-        let a = next(std::num::wrapping_add_u64(first, i));
+    for i in 1..=50 {
+        let a = next(first.wrapping_add(i));
         let b = next(a);
         sum = show(a, b, next(b), sum);
-        i += 1;
     }
     sum
 }
 
 fn main() {
-    let mut first: u64 = 0;
-    while first < 3000 {
+    for first in (0..3000).step_by(50) {
         io::print_decimal(STDOUT, first + 1);
         io::write_all(STDOUT, b": ");
         io::print_decimal(STDOUT, fifty(first));
         io::write_all(STDOUT, b"\n");
-        first += 50;
     }
 }

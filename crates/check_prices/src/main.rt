@@ -5,7 +5,6 @@
 
 ghost use Rattle.std.specs.Prelude.{◌<◌};
 
-use text_bytes::Found;
 use text_inputs::{front, part};
 use walk::Answer;
 
@@ -26,13 +25,8 @@ fn field(name: &[u8], value: u64) {
 // A row of an accepted answer: an entry for each want.
 fn entries(name: &[u8], row: &[u64], wants: usize) {
     text(name);
-    let mut i: usize = 0;
-    while i < wants {
-        if i >= row.len() {
-            return;
-        }
-        field(b" ", row[i]);
-        i += 1;
+    for entry in row.iter().take(wants) {
+        field(b" ", *entry);
     }
 }
 
@@ -82,7 +76,7 @@ fn opened(cells: [u64; 594], row: usize) -> [u64; 594] {
 fn grown(cells: [u64; 594], row: usize, digit: u64) -> [u64; 594] {
     let mut after = cells;
     let n = cells[row % 9];
-    let cell = cell_of(row, std::num::wrapping_sub_u64(n, 1));
+    let cell = cell_of(row, n.wrapping_sub(1));
     after[cell] = cells[cell] % 1000000000000000000 * 10 + digit % 10;
     after
 }
@@ -92,7 +86,7 @@ fn byte_taken(cells: [u64; 594], row: usize, byte: u8) -> [u64; 594] {
         return opened(cells, row);
     }
     if text_bytes::is_between(b'0', b'9', byte) {
-        return grown(cells, row, std::num::wrapping_sub_u8(byte, b'0') as u64);
+        return grown(cells, row, u64::from(byte.wrapping_sub(b'0')));
     }
     cells
 }
@@ -101,10 +95,8 @@ fn byte_taken(cells: [u64; 594], row: usize, byte: u8) -> [u64; 594] {
 fn row_taken(cells: [u64; 594], row: usize, line: &[u8]) -> [u64; 594] {
     let mut after = cells;
     after[row % 9] = 0;
-    let mut i: usize = 0;
-    while i < line.len() {
-        after = byte_taken(after, row, line[i]);
-        i += 1;
+    for byte in line {
+        after = byte_taken(after, row, *byte);
     }
     after
 }
@@ -140,44 +132,31 @@ fn show(label: &[u8], cells: &[u64; 594]) {
     answer_line(a, &times, &legs, numbers.len());
 }
 
-// A line of n bytes; none is taken where there are none.
+// The cells after a line of n bytes.
 fn line_taken(cells: [u64; 594], line: &[u8; 1024], n: usize) -> [u64; 594] {
-    if n == 0 {
-        return cells;
-    }
-    let Found::At(row) = text_bytes::find(&KEYS, line[0]) else {
-        show(part(line, 6, std::num::wrapping_sub_usize(n, 1)), &cells);
+    let Some(row) = text_bytes::find(&KEYS, line[0]) else {
+        show(part(line, 6, n.wrapping_sub(1)), &cells);
         return cells;
     };
     row_taken(cells, row, front(line, n as u64))
 }
 
-// The cells after the next line, and whether there was one.
-#[derive(Clone, Copy)]
-struct Taken {
-    cells: [u64; 594],
-    some: bool,
-}
-
-fn next_taken(cells: [u64; 594]) -> Taken {
+// The cells after the next line, if there is one.
+fn next_taken(cells: [u64; 594]) -> Option<[u64; 594]> {
     let mut line = [0u8; 1024];
     let n = text_inputs::read_line(&mut line);
-    Taken {
-        cells: line_taken(cells, &line, n),
-        some: 0 < n,
+    if n == 0 {
+        return None;
     }
+    Some(line_taken(cells, &line, n))
 }
 
 fn main() {
     let mut cells = [0u64; 594];
-    let mut lines: u64 = 0;
-    while lines < 1000 {
-        let taken = next_taken(cells);
-        if !taken.some {
+    for _ in 0..1000 {
+        let Some(after) = next_taken(cells) else {
             return;
-        }
-        let after = taken.cells;
+        };
         cells = after;
-        lines += 1;
     }
 }

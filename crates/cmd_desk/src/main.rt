@@ -16,15 +16,11 @@ use text_lines::NumberLine;
 
 const STDOUT: i32 = 1;
 
-// The number of the refusal of a line that is no event.
-const NO_EVENT: u64 = 11;
-
-// A day, how many events it has had, and whether it goes on.
+// A day, and how many events it has had.
 #[derive(Clone, Copy)]
-struct Step {
+struct Turn {
     day: Day,
     place: u64,
-    goes_on: bool,
 }
 
 fn print_refusal(verdict: Verdict) {
@@ -72,8 +68,7 @@ fn answer_line(
 
 // The verdict on a line, with the line's number where it is no event.
 fn placed(verdict: Verdict, place: u64) -> Verdict {
-    let kind = verdict.refusal;
-    if refusals::number(kind) == NO_EVENT {
+    if verdict.refusal == Refusal::BadLine {
         return Verdict {
             refusal: Refusal::BadLine,
             place,
@@ -91,21 +86,16 @@ fn empty_room() -> [u64; 65600]
 
 // Whether a line was cut off at the end of its row.
 fn is_cut(line: &[u8; 68], n: usize) -> bool {
-    if n == 68 {
-        return line[67] != b'\n';
-    }
-    false
+    n == 68 && line[67] != b'\n'
 }
 
 // Passes over what is left of a line of which this was read.
 fn pass_rest(line: &[u8; 68], n: usize) {
     let mut cut = is_cut(line, n);
-    let mut parts: u64 = 0;
-    while parts < 18446744073709551615 {
+    for _ in 0..u64::MAX {
         if !cut {
             break;
         }
-        parts += 1;
         let mut rest = [0u8; 68];
         let m = text_inputs::read_line(&mut rest);
         cut = is_cut(&rest, m);
@@ -124,64 +114,57 @@ fn place_of(before: u64, line: &[u8; 68], n: usize) -> u64 {
     before + 1
 }
 
-// One line behind so many events: its answer, and the day afterwards. No event that is as described is longer than 68 bytes: `file=`, three numbers of 20
-// digits, two commas and the LF.
-fn take_event(day: Day, before: u64, starts: &[u64], lengths: &[u64], aggregates: &[u64]) -> Step {
+// One line behind so many events: its answer, and the day afterwards, if it goes on. No event that is as described is longer than 68 bytes: `file=`, three
+// numbers of 20 digits, two commas and the LF.
+fn take_event(before: Turn, starts: &[u64], lengths: &[u64], aggregates: &[u64]) -> Option<Turn> {
+    let day = before.day;
     let mut line = [0u8; 68];
     let mut room = empty_room();
     let mut out = [0u8; 2677];
     let n = text_inputs::read_line(&mut line);
     if n == 0 {
         print_waiting(day);
-        return Step {
-            day,
-            place: before,
-            goes_on: false,
-        };
+        return None;
     }
-    let place = place_of(before, &line, n);
+    let place = place_of(before.place, &line, n);
     let answered = answer_line(
         day, &line, n, starts, lengths, aggregates, &mut room, &mut out,
     );
     let told = answered.told;
     let verdict = told.verdict;
-    if refusals::refused(verdict) {
+    if let Err(verdict) = verdict.told() {
         print_refusal(placed(verdict, place));
     }
     io::write_all(STDOUT, text_inputs::front(&out, told.bytes));
+    if verdict.refusal == Refusal::BadLine {
+        return None;
+    }
     let row = answered.row;
     let lasts = told.lasts;
-    let kind = verdict.refusal;
-    Step {
+    Some(Turn {
         day: Day { row, lasts },
         place,
-        goes_on: refusals::number(kind) != NO_EVENT,
-    }
+    })
 }
 
 // The events of a day at one tape, counted from 1.
 fn hold_day(starts: &[u64], lengths: &[u64], aggregates: &[u64]) {
-    let mut turn = Step {
+    let mut turn = Turn {
         day: answer_desk::morning(),
         place: 0,
-        goes_on: true,
     };
-    let mut lines: u64 = 0;
-    while lines < 18446744073709551615 {
-        if !turn.goes_on {
-            break;
-        }
-        lines += 1;
-        let day = turn.day;
-        turn = take_event(day, turn.place, starts, lengths, aggregates);
+    for _ in 0..u64::MAX {
+        let Some(next) = take_event(turn, starts, lengths, aggregates) else {
+            return;
+        };
+        turn = next;
     }
 }
 
 // A sheet: its refusal, or the day at its tape.
 fn open_desk(sheet: &[u8]) {
     let run = sheet_runs::read_run(sheet);
-    let verdict = run.verdict;
-    if refusals::refused(verdict) {
+    if let Err(verdict) = run.verdict.told() {
         print_refusal(verdict);
         return;
     }
@@ -215,16 +198,16 @@ fn take_sheet(bytes: u64) {
 }
 
 // The number of a line of a number alone.
-fn count_in(line: &[u8; 68], n: usize) -> NumberLine {
+fn count_in(line: &[u8; 68], n: usize) -> Option<NumberLine> {
     text_lines::number_line(text_inputs::front(line, n as u64), 0, b"")
 }
 
 fn main() {
     let mut line = [0u8; 68];
     let n = text_inputs::read_line(&mut line);
-    let NumberLine::Value { number, next: _ } = count_in(&line, n) else {
+    let Some(count) = count_in(&line, n) else {
         refuse_input();
         return;
     };
-    take_sheet(number);
+    take_sheet(count.number);
 }

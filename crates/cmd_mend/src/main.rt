@@ -2,7 +2,7 @@
 // say why not to standard output. The answer is proved in `answer_mend` and `sheet_writer`; what is read and written here is tested and not proved.
 #![tactic(auto)]
 
-use refusals::{Verdict, refused};
+use refusals::Verdict;
 use text_inputs::front;
 
 const STDIN: i32 = 0;
@@ -28,8 +28,8 @@ fn main() {
         refusal,
         place: mended.place,
     };
-    if refused(verdict) {
-        let lines = sheet_writer::write_refusal(verdict, &mut out);
+    if let Err(refusal) = verdict.told() {
+        let lines = sheet_writer::write_refusal(refusal, &mut out);
         io::write_all(STDOUT, front(&out, lines.bytes));
         return;
     }

@@ -2,12 +2,6 @@
 // The answer is proved in `answer_any`; what is read and written here is tested and not proved.
 #![tactic(auto)]
 
-use text_inputs::front;
-
-const STDIN: i32 = 0;
-
-const STDOUT: i32 = 1;
-
 // A long row comes from a function of its own: where it is made and lent in one, the check counts its entries one by one.
 fn empty_room() -> [u64; 655360] {
     [0u64; 655360]
@@ -19,7 +13,7 @@ fn main() {
     let mut sheet = [0u8; 16385];
     let mut out = [0u8; 7644];
     let mut room = empty_room();
-    let n = io::read_full(STDIN, &mut sheet);
-    let bytes = answer_any::recall_any(&sheet[..n], &mut out, &mut room);
-    io::write_all(STDOUT, front(&out, bytes));
+    text_inputs::answer_by(&mut sheet, &mut out, |sheet, out| {
+        answer_any::recall_any(sheet, out, &mut room)
+    });
 }

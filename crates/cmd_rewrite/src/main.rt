@@ -2,28 +2,24 @@
 // say why not. The answer is proved in `answer_rewrite` and `sheet_writer`; what is read and written here is tested and not proved.
 #![tactic(auto)]
 
-use refusals::{Verdict, refused};
-use text_inputs::front;
+use refusals::Verdict;
 
-const STDIN: i32 = 0;
-
-const STDOUT: i32 = 1;
+// How many bytes the answer has, in the first bytes of a row: those of the result, or of the lines of its refusal.
+fn answer(sheet: &[u8], out: &mut [u8]) -> u64 {
+    let written = answer_rewrite::rewrite(sheet, out);
+    let verdict = Verdict {
+        refusal: written.refusal,
+        place: written.place,
+    };
+    match verdict.told() {
+        Ok(()) => written.bytes,
+        Err(verdict) => sheet_writer::write_refusal(verdict, out).bytes,
+    }
+}
 
 // A byte more than a sheet may have is read. No result is longer than a sheet may be.
 fn main() {
     let mut sheet = [0u8; 16385];
     let mut out = [0u8; 16384];
-    let n = io::read_full(STDIN, &mut sheet);
-    let written = answer_rewrite::rewrite(&sheet[..n], &mut out);
-    let refusal = written.refusal;
-    let verdict = Verdict {
-        refusal,
-        place: written.place,
-    };
-    if refused(verdict) {
-        let lines = sheet_writer::write_refusal(verdict, &mut out);
-        io::write_all(STDOUT, front(&out, lines.bytes));
-        return;
-    }
-    io::write_all(STDOUT, front(&out, written.bytes));
+    text_inputs::answer_by(&mut sheet, &mut out, answer);
 }

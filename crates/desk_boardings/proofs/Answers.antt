@@ -1,18 +1,14 @@
 -- The answer of a boarding by the plan's, and the whole contract of a call.
-use Prim.Native.Nat.{ℕ, ◌-◌, ◌≤◌}
+use Prim.Native.Nat.{ℕ}
 use mathlib.Core.Path.{◌≡◌, refl, sym, ap, ◌∙◌, subst}
 use mathlib.Core.Bool.{Bool, true, false, true≢false}
 use mathlib.Core.List.{List}
-use native.Mathlib.Omega.{arith}
-use lib.ListN.{length, take, length-map, length-append}
-use borrow.Author.Tests.{eq-eqb, ne_eqb}
-use Rattle.refusals.specs.declared.Verdict.{Verdict}
-use Rattle.refusals.specs.Refusals.{number_of, is_refusal}
-use Rattle.refusals.proofs.Verdicts.{refuses}
+use Rattle.std.specs.Prelude.{Ok}
+use lib.ListN.{take, length-map}
+use Rattle.refusals.specs.Refusals.{is_refusal, checked}
+use Rattle.refusals.proofs.Checked.{passed}
 use Rattle.runs.specs.Run.{run_of}
-use Rattle.runs.specs.Alone.{zeros}
 use Rattle.walk.specs.declared.Answer.{Answer}
-use Rattle.walk.specs.Price.{refusal_answer}
 use Rattle.planner.specs.Plan.{Plans}
 use Rattle.planner.specs.Rows.{Rows}
 use Rattle.desk_tickets.specs.declared.Ticket.{Ticket}
@@ -22,39 +18,29 @@ use Rattle.desk_boardings.specs.declared.Boarding.{Boarding}
 use Rattle.desk_boardings.specs.declared.Taken.{Taken}
 use Rattle.desk_boardings.specs.declared.Wants.{Wants}
 use Rattle.desk_boardings.specs.declared.BoardedRow.{BoardedRow}
-use Rattle.desk_boardings.specs.Boarders.{Want, most_boarders, file_numbers, read_counts, row_staying, wants_of}
-use Rattle.desk_boardings.specs.Boardings.{Tape, eight, board_run, taken_of, want_rows, not_boarded, boarded_by, Boards}
+use Rattle.desk_boardings.specs.Boarders.{file_numbers, read_counts, row_staying, wants_of}
+use Rattle.desk_boardings.specs.Boardings.{Tape, board_run, taken_of, want_rows, not_boarded, boarded_by, Boards}
 use Rattle.desk_boardings.proofs.Adding.{eight_front}
 
-module _ (row : List Ticket) (l : Lasts) (a : Answer) (n : ℕ) (is : n ≡ number_of a.refusal) where
-  pub nobody : (n ≡ 0 → ⊥) → (r : BoardedRow) → r ≡ not_boarded row l a → r ≡ boarded_by row l a
-  nobody some r says = rw (ne_eqb (number_of a.refusal) 0 (λ z. some (is ∙ z))) says
+-- An accepted plan's answer.
+pub somebody : (row : List Ticket) (l : Lasts) (a : Answer) → is_refusal a.refusal ≡ false → (taken : Taken) (wants : Wants) (next : List Ticket)
+    → taken ≡ taken_of row → wants ≡ want_rows (wants_of row) → next ≡ row_staying row
+    → ◌≡◌ {A = BoardedRow} (record { boarded = record { answer = a; taken = taken; wants = wants; lasts = l }; row = next }) (boarded_by row l a)
+somebody row l a none taken wants next t w s = rw none (made t w s)
+  where
+    made : {t t' : Taken} {w w' : Wants} {s s' : List Ticket} → t ≡ t' → w ≡ w' → s ≡ s'
+        → ◌≡◌ {A = BoardedRow} (record { boarded = record { answer = a; taken = t; wants = w; lasts = l }; row = s })
+        (record { boarded = record { answer = a; taken = t'; wants = w'; lasts = l }; row = s' })
+    made e f g = cc
 
-  pub somebody : n ≡ 0 → (taken : Taken) (wants : Wants) (next : List Ticket) → taken ≡ taken_of row → wants ≡ want_rows (wants_of row) → next ≡ row_staying row
-      → ◌≡◌ {A = BoardedRow} (record { boarded = record { answer = a; taken = taken; wants = wants; lasts = l }; row = next }) (boarded_by row l a)
-  somebody none taken wants next t w s = rw (eq-eqb (number_of a.refusal) 0 (sym is ∙ none)) (made t w s)
-    where
-      made : {t t' : Taken} {w w' : Wants} {s s' : List Ticket} → t ≡ t' → w ≡ w' → s ≡ s'
-          → ◌≡◌ {A = BoardedRow} (record { boarded = record { answer = a; taken = t; wants = w; lasts = l }; row = s })
-          (record { boarded = record { answer = a; taken = t'; wants = w'; lasts = l }; row = s' })
-      made e f g = cc
-
-module _ (len : ℕ) (tape : Tape) (row : List Ticket) (b : Boarding) (before : Rows) (r : BoardedRow) (v : Verdict) (is : v ≡ records_verdict len row b.lasts) (f : Bool) (test : f ≡ refuses v) where
-  -- The row is refused.
-  pub row_refused : f ≡ true → (a : Answer) → a ≡ refusal_answer v → r ≡ not_boarded row b.lasts a → Boards len tape row b before r before
-  row_refused e a a-is says =
-      record {
-        refused = λ _. record { says = says ∙ ap (not_boarded row b.lasts) (a-is ∙ ap refusal_answer is); kept = refl };
-        planned = λ p. absurd (true≢false (sym (rw is at (sym test ∙ e)) ∙ p));
-      }
-
+module _ (len : ℕ) (tape : Tape) (row : List Ticket) (b : Boarding) (before : Rows) (r : BoardedRow) where
   -- It is not, and the plan decides.
-  pub run_boarded : f ≡ false → (after : Rows) → (a : Answer) → (w : Wants) → w ≡ want_rows (wants_of row)
+  pub run_boarded : (u : Unit) → Ok u ≡ checked (records_verdict len row b.lasts) → (after : Rows) → (a : Answer) → (w : Wants) → w ≡ want_rows (wants_of row)
       → Plans (run_of tape.starts tape.lengths tape.aggregates (take w.k w.numbers) (take w.k w.counts) b.head b.turn) before a after
       → r ≡ boarded_by row b.lasts a → Boards len tape row b before r after
-  run_boarded e after a w w-is plans says =
+  run_boarded u said after a w w-is plans says =
       record {
-        refused = λ p. absurd (true≢false (sym p ∙ rw is at (sym test ∙ e)));
+        refused = λ p. absurd (true≢false (sym p ∙ passed _ u said));
         planned = λ _. record { plans = rw answers run_is; says = says ∙ ap (boarded_by row b.lasts) (sym answers) };
       }
     where
@@ -75,10 +61,3 @@ module _ (len : ℕ) (tape : Tape) (row : List Ticket) (b : Boarding) (before : 
           by_test : (c : Bool) → (mathlib.Core.Bool.cond c (not_boarded row b.lasts a) (record { boarded = record { answer = a; taken = taken_of row; wants = want_rows (wants_of row); lasts = b.lasts }; row = row_staying row })).boarded.answer ≡ a
           by_test true = refl
           by_test false = refl
-
--- Rows of eight hold at most eight wants.
-pub within_eight : (w : Wants) (ws : List Want) → w ≡ want_rows ws → length w.numbers ≡ most_boarders → w.k ≤ most_boarders
-within_eight w ws is long =
-    let e : length (eight (file_numbers ws)) ≡ most_boarders = ap (λ v. length v.numbers) (sym is) ∙ long in
-    rw (ap (λ v. v.k) is)
-    (omega (arith, sym (length-append (file_numbers ws) (zeros (most_boarders - length (file_numbers ws)))) ∙ e, length-map ws (λ x. x.file)))

@@ -87,9 +87,6 @@ module _ (row : List Ticket) (all : length row ≡ all_places) (accepts : SoundR
   none_held : HoldsWants (taken.two + taken.one) (want_rows []) []
   none_held = record { is = refl; few = omega (arith, few); reads = omega (arith, few) }
 
-  pub first_held : HoldsSome taken.one (want_rows [])
-  first_held = record { wants = []; holds = record { is = refl; few = omega (arith, few); reads = omega (arith, few) } }
-
   module _ (ones : Wants) (first : (m : ℕ) (ws : List Want) → HoldsWants (m + taken.one) (want_rows []) ws → HoldsWants m ones (with_wants ws (take taken.one (drop 0 row)))) where
     ones_held : HoldsWants taken.two ones (with_wants [] (take taken.one (drop 0 row)))
     ones_held = first taken.two [] none_held

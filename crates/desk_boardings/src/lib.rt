@@ -2,7 +2,7 @@
 // made by value; one function lends the planner's rows. All is judged before the first write.
 #![tactic(auto)]
 
-ghost use Rattle.std.specs.Prelude.{◌≡◌, min};
+ghost use Rattle.std.specs.Prelude.{◌≡◌};
 ghost use Rattle.planner.specs.Rows.{rows_before, rows_after};
 ghost use Rattle.desk_boardings.specs.Boarders.{share, wants_of};
 ghost use Rattle.desk_boardings.specs.Boardings.{Boards, tape_at, taken_of, want_rows, not_boarded, boarded_by};
@@ -10,7 +10,7 @@ ghost use Rattle.desk_boardings.specs.Private.{SoundRow};
 
 use crate::gathering::wants_of;
 use desk_tickets::{Lasts, Ticket};
-use refusals::{number, refused};
+use refusals::Refusal;
 use walk::Answer;
 
 mod gathering;
@@ -36,6 +36,7 @@ pub struct Taken {
 }
 
 // So many wants, in the first entries of two rows: file numbers and counts. Behind them stand zeros.
+// Stays: rows of an array, since the record is copied, and the house works without a heap.
 #[derive(Clone, Copy)]
 pub struct Wants {
     pub k: usize,
@@ -54,24 +55,19 @@ pub struct Boarded {
 }
 
 // The same with the row afterwards.
+// Stays: rows of an array, since the record is copied, and the house works without a heap.
 #[derive(Clone, Copy)]
 pub struct BoardedRow {
     pub boarded: Boarded,
     pub row: [Ticket; 32],
 }
 
-fn lesser(a: usize, b: usize) -> usize
-    ensures { result ≡ min a b }
-{
-    if a < b { a } else { b }
-}
-
 // How many of an office's tickets board, by how many wait there and at the other office.
 fn share_of(mine: usize, others: usize) -> usize
     ensures { result ≡ share mine others }
 {
-    let kept = lesser(OWN_PLACES, others);
-    lesser(mine, MOST_BOARDERS - kept)
+    let kept = OWN_PLACES.min(others);
+    mine.min(MOST_BOARDERS - kept)
 }
 
 // How many of each office board.
@@ -120,7 +116,7 @@ fn boarded_by(
     ensures { result ≡ boarded_by row lasts answer }
 {
     let kind = answer.refusal;
-    if number(kind) != 0 {
+    if kind != Refusal::Accepted {
         return not_boarded(row, lasts, answer);
     }
     let staying = desk_tickets::without_first(row, taken.one, taken.two);
@@ -152,8 +148,7 @@ pub fn board_in(
     ensures { Boards len (tape_at starts lengths aggregates) row boarding (rows_before froms tos times legs room) result (rows_after froms tos times legs room) }
 {
     let lasts = boarding.lasts;
-    let verdict = desk_tickets::judge_row(len, row, lasts);
-    if refused(verdict) {
+    if let Err(verdict) = desk_tickets::judge_row(len, row, lasts) {
         return not_boarded(row, lasts, walk::refuse(verdict));
     }
     let taken = taken_of(row);

@@ -4,6 +4,7 @@ use mathlib.Core.Path.{◌≡◌, refl, sym, ap, ◌∙◌}
 use mathlib.Core.Bool.{Bool, true, false}
 use mathlib.Core.List.{List}
 use lib.ListN.{length}
+use Rattle.std.specs.Prelude.{Option}
 use Rattle.refusals.specs.Refusals.{is_refusal}
 use Rattle.walk.specs.declared.Answer.{Answer}
 use Rattle.planner.specs.Rows.{Rows}
@@ -49,7 +50,7 @@ module _ (ts : List Ticket) (tape : Tape) (b : Boarding) (before : Rows) (r r' :
       (ap (λ (d : BoardedRow). d.boarded) e.0, e.1, p.row ∙ ap (λ (d : BoardedRow). with_table d.row ts) e.0 ∙ sym q.row)
 
 -- Two results of `answer` that fit its contract are equal, and two of `answer_held`.
-module _ (l : Lasts) (tape : Tape) (room out : List ℕ) (e : Event) (room' room'' out' out'' : List ℕ) where
+module _ (l : Lasts) (tape : Tape) (room out : List ℕ) (e : Option Event) (room' room'' out' out'' : List ℕ) where
   pub lent_determined : (ts : List Ticket) (r s : Told) (exit exit' : List Ticket) → LentAnswered ts l tape room out e r exit room' out' → LentAnswered ts l tape room out e s exit' room'' out''
       → (r ≡ s) × (exit ≡ exit') × (room' ≡ room'') × (out' ≡ out'')
   lent_determined ts r s exit exit' p q =

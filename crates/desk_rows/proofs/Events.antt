@@ -1,40 +1,24 @@
 -- An event on a lent row, from the promises of what is called: the table out of the row, the event answered by value, the table back into the row.
 use Prim.Native.Nat.{ℕ, ◌-◌, ◌≤◌}
-use mathlib.Core.Path.{◌≡◌, refl, sym, ap, subst, ◌∙◌}
+use mathlib.Core.Path.{◌≡◌, ap, subst, ◌∙◌}
 use mathlib.Core.List.{List, ◌++◌, append-nil}
 use native.Mathlib.Omega.{arith}
-use lib.ListN.{length, take, drop, replicate, drop_of_length-le}
+use lib.ListN.{length, take, replicate, drop_of_length-le}
 use lib.Seq.{take_all}
+use Rattle.std.specs.Prelude.{Option}
 use Rattle.desk_tickets.specs.declared.Ticket.{Ticket}
 use Rattle.desk_tickets.specs.declared.Lasts.{Lasts}
 use Rattle.desk_tickets.specs.WaitingTable.{no_ticket}
 use Rattle.desk_boardings.specs.Boardings.{Tape}
 use Rattle.answer_desk.specs.declared.Event.{Event}
-use Rattle.answer_desk.specs.declared.Answered.{Answered}
 use Rattle.answer_desk.specs.Days.{EventAnswered}
 use Rattle.desk_rows.specs.declared.Told.{Told}
 use Rattle.desk_rows.specs.declared.ToldRow.{ToldRow}
 use Rattle.desk_rows.specs.Desk.{table_in, with_table}
-use Rattle.desk_rows.specs.Events.{day_of, told_by, told_row, LentAnswered, HeldAnswered}
+use Rattle.desk_rows.specs.Events.{day_of, told_row, LentAnswered, HeldAnswered}
 use Rattle.desk_rows.proofs.Kept.{table_then_rest}
 
-module _ (l : Lasts) (tape : Tape) (room out : List ℕ) (e : Event) (room' out' : List ℕ) where
-  pub lent_so : (ts exit table : List Ticket) (done : Answered) (r : Told)
-      → table ≡ table_in ts
-      → EventAnswered (length ts) tape (day_of table l) room out e done room' out'
-      → length done.day.row ≡ 32
-      → exit ≡ with_table done.day.row ts
-      → r ≡ told_by done
-      → LentAnswered ts l tape room out e r exit room' out'
-  lent_so ts exit table done r taken answers whole back says =
-      record {
-        answered = done;
-        answers = subst (λ (t : List Ticket). EventAnswered (length ts) tape (day_of t l) room out e done room' out') taken answers;
-        whole = whole;
-        says = says;
-        row = back;
-      }
-
+module _ (l : Lasts) (tape : Tape) (room out : List ℕ) (e : Option Event) (room' out' : List ℕ) where
   -- A table of 32 records is the table in it, and what is written back is all of it.
   module _ (row : List Ticket) (all : length row ≡ 32) where
     table_itself : table_in row ≡ row

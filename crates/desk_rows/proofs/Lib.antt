@@ -1,6 +1,5 @@
 -- Laws that this crate's proofs share.
 pub mod Places
-pub mod Copying
 pub mod Thin
 pub mod Determined
 pub mod Kept

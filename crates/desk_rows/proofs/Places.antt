@@ -1,12 +1,12 @@
 -- The places that a row of records and the table have in common: as many as the row has, and at most 32.
 use Prim.Native.Nat.{ℕ, zero, suc, ◌-◌, ◌≤◌, min}
-use mathlib.Core.Path.{◌≡◌, refl, sym, ap, ◌∙◌}
+use mathlib.Core.Path.{◌≡◌, refl, sym, ◌∙◌}
 use mathlib.Core.Logic.{by_cases}
-use mathlib.Core.List.{List, [], ◌++◌}
+use mathlib.Core.List.{List, ◌++◌}
 use native.Mathlib.Decide.{dec_le}
 use native.Mathlib.Numerals.{unary_clauses}
 use native.Mathlib.Omega.{arith}
-use lib.ListN.{length, take, drop, replicate, length-replicate, drop_of_length-le}
+use lib.ListN.{length, take, drop, replicate, drop_of_length-le}
 use lib.Seq.{take_all}
 use Rattle.desk_tickets.specs.declared.Ticket.{Ticket}
 use Rattle.desk_tickets.specs.WaitingTable.{no_ticket}

@@ -1,11 +1,12 @@
 -- A line of a journal: what its first byte decides, and the answer to it either way.
-use Prim.Native.Nat.{ℕ, ◌<◌}
+use Prim.Native.Nat.{ℕ}
 use mathlib.Core.Path.{◌≡◌, refl, sym, ◌∙◌}
 use mathlib.Core.Bool.{Bool, true, false, true≢false}
 use mathlib.Core.List.{List, [], ◌∷◌}
 use native.Mathlib.Omega.{arith}
-use lib.ListN.{length, get_or}
 use lib.Dec.{eqb}
+use Rattle.std.specs.List.{starts_with}
+use Rattle.std.proofs.lemmas.Bool.Decides.{nat_tests}
 use Rattle.refusals.specs.Refusals.{accepted}
 use Rattle.text_lines.specs.Lines.{line_of}
 use Rattle.desk_tickets.specs.declared.Ticket.{Ticket}
@@ -16,15 +17,10 @@ use Rattle.desk_rows.specs.declared.ToldRow.{ToldRow}
 use Rattle.desk_rows.specs.Events.{told_row, HeldAnswered}
 use Rattle.desk_rows.specs.Journal.{is_remark, LineTaken}
 
-pub empty_no_remark : (line : List ℕ) → length line ≡ 0 → false ≡ is_remark line
+pub first_byte : (line : List ℕ) → starts_with eqb line (35 ∷ []) ≡ is_remark line
 unfolding is_remark
-empty_no_remark [] none = refl
-empty_no_remark (b ∷ bs) none = absurd (omega (arith, none))
-
-pub first_byte : (line : List ℕ) → (length line ≡ 0 → ⊥) → eqb (get_or line 0 0) 35 ≡ is_remark line
-unfolding is_remark
-first_byte [] some = absurd (some refl)
-first_byte (b ∷ bs) some = refl
+first_byte [] = refl
+first_byte (b ∷ bs) = grind (arith, nat_tests)
 
 module _ (row : List Ticket) (l : Lasts) (tape : Tape) (room out line : List ℕ) (f : Bool) (is : f ≡ is_remark line) where
   pub line_passed : f ≡ true → LineTaken row l tape room out line (told_row row (record { lasts = l; verdict = accepted; bytes = 0 })) room out

@@ -11,38 +11,14 @@ use Rattle.walk.specs.declared.Answer.{Answer}
 use Rattle.walk.specs.Price.{refusal_answer}
 use Rattle.planner.specs.Rows.{Rows}
 use Rattle.desk_tickets.specs.declared.Ticket.{Ticket}
-use Rattle.desk_tickets.specs.declared.Filing.{Filing}
-use Rattle.desk_tickets.specs.declared.FiledRow.{FiledRow}
 use Rattle.desk_tickets.specs.declared.Lasts.{Lasts}
-use Rattle.desk_tickets.specs.declared.Withdrawal.{Withdrawal}
-use Rattle.desk_tickets.specs.declared.WithdrawnRow.{WithdrawnRow}
 use Rattle.desk_tickets.specs.WaitingTable.{records_verdict}
-use Rattle.desk_tickets.specs.Filings.{file_row}
-use Rattle.desk_tickets.specs.Withdrawals.{withdraw_row}
 use Rattle.desk_boardings.specs.declared.Boarding.{Boarding}
 use Rattle.desk_boardings.specs.declared.Boarded.{Boarded}
 use Rattle.desk_boardings.specs.declared.BoardedRow.{BoardedRow}
 use Rattle.desk_boardings.specs.Boarders.{row_staying, wants_of}
 use Rattle.desk_boardings.specs.Boardings.{Tape, Boards, boarded_by, not_boarded, taken_of, want_rows}
 use Rattle.desk_rows.specs.Desk.{table_in, with_table, boarded_row, BoardsLent}
-
-pub filed_so_lem : (ts after table : List Ticket) (filing : Filing) (done : FiledRow)
-    → table ≡ table_in ts
-    → done ≡ file_row (length ts) table filing
-    → after ≡ with_table done.row ts
-    → (done.filed ≡ (file_row (length ts) (table_in ts) filing).filed) × (after ≡ with_table (file_row (length ts) (table_in ts) filing).row ts)
-filed_so_lem ts after table filing done out worked back =
-    let so : done ≡ file_row (length ts) (table_in ts) filing = worked ∙ ap (λ (t : List Ticket). file_row (length ts) t filing) out in
-    (ap (λ (d : FiledRow). d.filed) so, back ∙ ap (λ (d : FiledRow). with_table d.row ts) so)
-
-pub withdrawn_so_lem : (ts after table : List Ticket) (withdrawal : Withdrawal) (done : WithdrawnRow)
-    → table ≡ table_in ts
-    → done ≡ withdraw_row (length ts) table withdrawal
-    → after ≡ with_table done.row ts
-    → (done.withdrawn ≡ (withdraw_row (length ts) (table_in ts) withdrawal).withdrawn) × (after ≡ with_table (withdraw_row (length ts) (table_in ts) withdrawal).row ts)
-withdrawn_so_lem ts after table withdrawal done out worked back =
-    let so : done ≡ withdraw_row (length ts) (table_in ts) withdrawal = worked ∙ ap (λ (t : List Ticket). withdraw_row (length ts) t withdrawal) out in
-    (ap (λ (d : WithdrawnRow). d.withdrawn) so, back ∙ ap (λ (d : WithdrawnRow). with_table d.row ts) so)
 
 abbrev told_by : Boarded → List Ticket → BoardedRow
 told_by b row = record { boarded = b; row = row }

@@ -1,5 +1,5 @@
 -- An event of a day at the desk on a lent row of records: answered on the table that its first 32 records hold, which are then those of the day afterwards.
-use Rattle.std.specs.Prelude.{ℕ, ◌≡◌, List, length}
+use Rattle.std.specs.Prelude.{ℕ, ◌≡◌, List, length, Option}
 use Rattle.desk_tickets.specs.declared.Ticket.{Ticket}
 use Rattle.desk_tickets.specs.declared.Lasts.{Lasts}
 use Rattle.desk_boardings.specs.Boardings.{Tape}
@@ -21,7 +21,7 @@ told_by a = record { lasts = a.day.lasts; verdict = a.verdict; bytes = a.bytes }
 abbrev pub told_row : List Ticket → Told → ToldRow
 told_row row told = record { row = row; told = told }
 
-pub record LentAnswered (ts : List Ticket) (l : Lasts) (tape : Tape) (room out : List ℕ) (e : Event) (r : Told) (exit : List Ticket) (room' out' : List ℕ) : Type 0 where
+pub record LentAnswered (ts : List Ticket) (l : Lasts) (tape : Tape) (room out : List ℕ) (e : Option Event) (r : Told) (exit : List Ticket) (room' out' : List ℕ) : Type 0 where
   pub answered : Answered
   pub answers : EventAnswered (length ts) tape (day_of (table_in ts) l) room out e answered room' out'
   pub whole : length answered.day.row ≡ 32
@@ -29,7 +29,7 @@ pub record LentAnswered (ts : List Ticket) (l : Lasts) (tape : Tape) (room out :
   pub row : exit ≡ with_table answered.day.row ts
 
 -- On a table of 32 records, lent as a row.
-pub record HeldAnswered (row : List Ticket) (l : Lasts) (tape : Tape) (room out : List ℕ) (e : Event) (r : ToldRow) (room' out' : List ℕ) : Type 0 where
+pub record HeldAnswered (row : List Ticket) (l : Lasts) (tape : Tape) (room out : List ℕ) (e : Option Event) (r : ToldRow) (room' out' : List ℕ) : Type 0 where
   pub held : Answered
   pub answers : EventAnswered 32 tape (day_of row l) room out e held room' out'
   pub says : r ≡ told_row held.day.row (told_by held)

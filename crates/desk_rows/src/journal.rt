@@ -5,16 +5,13 @@ ghost use Rattle.desk_rows.specs.Journal.{is_remark, LineTaken};
 
 use crate::{Told, ToldRow, answer_held};
 use desk_tickets::{Lasts, Ticket};
-use refusals::{Refusal, Verdict};
+use refusals::Verdict;
 
 // Whether a line begins with #.
 pub fn is_remark(line: &[u8]) -> bool
     ensures { result ≡ is_remark line.now }
 {
-    if line.len() == 0 {
-        return false;
-    }
-    line[0] == b'#'
+    line.starts_with(b"#")
 }
 
 // The answer to one line of a journal at one tape. A remark changes nothing and is told nothing.
@@ -31,13 +28,9 @@ pub fn take_line(
     ensures { LineTaken row lasts (tape_at starts lengths aggregates) room.old out.old line.now result room.new out.new }
 {
     if is_remark(line) {
-        let verdict = Verdict {
-            refusal: Refusal::Accepted,
-            place: 0,
-        };
         let told = Told {
             lasts,
-            verdict,
+            verdict: Verdict::accepted(),
             bytes: 0,
         };
         return ToldRow { row, told };

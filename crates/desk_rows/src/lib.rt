@@ -2,9 +2,8 @@
 // records are copied out, the work is done by value, and they are copied back.
 #![tactic(auto)]
 
-ghost use Rattle.std.specs.Prelude.{◌≡◌, min, replicate};
+ghost use Rattle.std.specs.Prelude.{◌≡◌};
 ghost use Rattle.planner.specs.Rows.{rows_before, rows_after};
-ghost use Rattle.desk_tickets.specs.WaitingTable.{no_ticket};
 ghost use Rattle.desk_boardings.specs.Boardings.{tape_at};
 ghost use Rattle.text_lines.specs.Lines.{line_of};
 ghost use Rattle.answer_desk.specs.Events.{event_of};
@@ -13,7 +12,7 @@ ghost use Rattle.desk_rows.specs.Desk.{table_in, with_table, filed_from, row_fil
 
 use answer_desk::{Answered, Day};
 use desk_boardings::{Boarded, Boarding};
-use desk_tickets::{Filed, Filing, Lasts, Ticket, Withdrawal, Withdrawn};
+use desk_tickets::{Filed, Filing, Lasts, NO_TICKET, Ticket, Withdrawal, Withdrawn};
 use refusals::Verdict;
 
 mod journal;
@@ -21,6 +20,7 @@ mod journal;
 pub use journal::{is_remark, take_line};
 
 // What is answered to an event beside the row: the last numbers given, the verdict, and how many bytes the text has.
+// Stays: one record and no Result, since RefusedAnswerLeavesTheRow in the promises reads the last numbers and the bytes on a refusal too.
 #[derive(Clone, Copy)]
 pub struct Told {
     pub lasts: Lasts,
@@ -29,45 +29,20 @@ pub struct Told {
 }
 
 // The same with the table afterwards.
+// Stays: rows of an array, since the record is copied, and the house works without a heap.
 #[derive(Clone, Copy)]
 pub struct ToldRow {
     pub row: [Ticket; 32],
     pub told: Told,
 }
 
-// How many records of a row of this length are the table's.
-fn used(len: usize) -> usize
-    ensures { result ≡ min len 32 }
-{
-    if len < 32 {
-        return len;
-    }
-    32
-}
-
-// A table of empty places.
-fn blank() -> [Ticket; 32]
-    ensures { result ≡ replicate 32 no_ticket }
-{
-    [Ticket {
-        office: 0,
-        file: 0,
-        count: 0,
-        number: 0,
-    }; 32]
-}
-
 // The first 32 records of a row; empty places where it has fewer.
 fn copy_out(ts: &[Ticket]) -> [Ticket; 32]
     ensures { result ≡ table_in ts.now }
 {
-    let mut row = blank();
-    let n = used(ts.len());
-    let mut i: usize = 0;
-    while i < n {
-        row[i] = ts[i];
-        i += 1;
-    }
+    let mut row = [NO_TICKET; 32];
+    let n = ts.len().min(32);
+    row[..n].copy_from_slice(&ts[..n]);
     row
 }
 
@@ -75,12 +50,8 @@ fn copy_out(ts: &[Ticket]) -> [Ticket; 32]
 fn copy_in(ts: &mut [Ticket], row: [Ticket; 32])
     ensures { ts.new ≡ with_table row ts.old }
 {
-    let n = used(ts.len());
-    let mut i: usize = 0;
-    while i < n {
-        ts[i] = row[i];
-        i += 1;
-    }
+    let n = ts.len().min(32);
+    ts[..n].copy_from_slice(&row[..n]);
 }
 
 // A ticket filed in a lent row of records.
@@ -97,6 +68,7 @@ pub fn file(ts: &mut [Ticket], filing: Filing) -> Filed
 }
 
 // A ticket withdrawn from a lent row of records.
+// Stays: as `file` over another call; one over a call that is passed in names its answer in a bound and in a clause, for five lines.
 pub fn withdraw(ts: &mut [Ticket], withdrawal: Withdrawal) -> Withdrawn
     ensures value { result ≡ withdrawn_from ts.old withdrawal }
     ensures ts_after { ts.new ≡ row_withdrawn ts.old withdrawal }

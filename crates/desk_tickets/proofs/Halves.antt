@@ -8,7 +8,7 @@ use native.Mathlib.Numerals.{add-one}
 use lib.ListN.{length, get_or, take, drop, length-drop, drop_of_length-le}
 use lib.Seq.{drop-cons, get_or-take, get_or-drop, length-take-le}
 use Rattle.desk_tickets.specs.declared.Ticket.{Ticket}
-use Rattle.desk_tickets.specs.WaitingTable.{places, all_places, no_ticket, is_empty_place, tickets_in, first_place}
+use Rattle.desk_tickets.specs.WaitingTable.{places, all_places, no_ticket, is_empty_place, tickets_in, first_place, half}
 
 pub tickets_none : (t : Ticket) (ts : List Ticket) → is_empty_place t ≡ true → tickets_in (t ∷ ts) ≡ []
 unfolding tickets_in
@@ -61,9 +61,6 @@ pub record Counted (h : List Ticket) (n : ℕ) : Type 0 where
   pub so : length (tickets_in h) ≡ n + length (tickets_in (drop n h))
 
 module _ (h : List Ticket) where
-  pub counted_none : Counted h 0
-  counted_none = record { within = omega arith; so = omega arith }
-
   at_place : (n : ℕ) → n < length h → tickets_in (drop n h) ≡ tickets_in (get_or h n no_ticket ∷ drop (suc n) h)
   at_place n l = ap tickets_in (drop-cons h n no_ticket l)
 
@@ -89,8 +86,10 @@ first_place_within office = by_test (lib.Dec.eqb office 2)
     by_test true = omega arith
     by_test false = omega arith
 
--- The same for an office whose places begin at `first`.
-pub record CountedAt (office first : ℕ) (row : List Ticket) (n : ℕ) : Type 0 where
-  pub begins : first ≡ first_place office
-  pub in_row : first ≤ places
-  pub so_far : Counted (places_from first row) n
+-- An office's places, which begin at `first` in the row.
+module _ (office first : ℕ) (row : List Ticket) (begins : first ≡ first_place office) (all : length row ≡ all_places) where
+  pub half_long : length (half office row) ≡ places
+  half_long = places_long (first_place office) row (first_place_within office) all
+
+  pub half_place : (i : ℕ) → i < places → get_or (half office row) i no_ticket ≡ get_or row (first + i) no_ticket
+  half_place i l = rw begins (place_in_row (first_place office) row (first_place_within office) all i l)

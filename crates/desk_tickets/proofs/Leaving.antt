@@ -6,14 +6,16 @@ use mathlib.Core.List.{List, [], ◌∷◌, ◌++◌, append-nil}
 use mathlib.Core.Logic.{⊎_elim, ◌⊎◌}
 use native.Mathlib.Omega.{arith}
 use native.Mathlib.Numerals.{add-one}
+use Rattle.std.specs.Prelude.{Ok, Err}
 use lib.Dec.{eqb, ltb}
 use lib.ListN.{length, get_or, take, drop, drop_of_length-le}
 use lib.Seq.{drop-cons, drop_at, take_all, paste}
 use borrow.Author.Tests.{lt-ltb, le-ltb, ltb-true, not-false}
 use Rattle.refusals.specs.declared.Refusal.TheVariants.{NotWaiting}
 use Rattle.refusals.specs.declared.Verdict.{Verdict}
-use Rattle.refusals.specs.Refusals.{refuse_if}
-use Rattle.refusals.proofs.Verdicts.{refuses, all_accept, accepts_if}
+use Rattle.refusals.specs.Refusals.{accepted, checked, refuse_if}
+use Rattle.refusals.proofs.Verdicts.{refuses, none_refuses, all_accept, accepts_if}
+use Rattle.refusals.proofs.Checked.{passed, stopped}
 use Rattle.runs.proofs.Search.{ltb_same}
 use Rattle.desk_tickets.specs.declared.Ticket.{Ticket}
 use Rattle.desk_tickets.specs.declared.Lasts.{Lasts}
@@ -89,9 +91,6 @@ pub record Sought (n : ℕ) (ts : List Ticket) (i : ℕ) : Type 0 where
   pub so : index_of n ts ≡ i + index_of n (drop i ts)
 
 module _ (n : ℕ) (ts : List Ticket) where
-  pub sought_none : Sought n ts 0
-  sought_none = record { within = omega arith; so = omega arith }
-
   at_place : (i : ℕ) → i < length ts → index_of n (drop i ts) ≡ index_of n (get_or ts i no_ticket ∷ drop (suc i) ts)
   at_place i l = ap (index_of n) (drop-cons ts i no_ticket l)
 
@@ -116,8 +115,13 @@ module _ (office : ℕ) (row : List Ticket) (all : length row ≡ all_places) wh
       let few = waiting_few in
       sym ((tickets_at (places_from (first_place office) row) i l).0 ∙ place_in_row (first_place office) row (first_place_within office) all i (omega arith))
 
-pub waits_elsewhere : (office n : ℕ) (row : List Ticket) → up_to offices office ≡ false → false ≡ is_waiting office n row
-waits_elsewhere office n row e = rw e
+  -- The same for an office whose places begin at `first`, where n wait.
+  module _ (first : ℕ) (begins : first ≡ first_place office) (n : ℕ) (count : n ≡ length (waiting office row)) (i : ℕ) (l : i < n) where
+    pub waiting_place : first + i < all_places
+    waiting_place = let few = waiting_few in omega (arith, first_place_within office)
+
+    pub waiting_here : get_or row (first + i) no_ticket ≡ get_or (waiting office row) i no_ticket
+    waiting_here = rw begins (waiting_at i (omega arith))
 
 pub waits_index : (office n : ℕ) (row : List Ticket) (i m : ℕ) → up_to offices office ≡ true → i ≡ index_of n (waiting office row) → m ≡ length (waiting office row) → ltb i m ≡ is_waiting office n row
 waits_index office n row i m e i-is m-is = rw (e, i-is, m-is) (sym (has_index_lem n (waiting office row)))
@@ -144,6 +148,7 @@ module _ (l : Lasts) (ones twos row : List Ticket) (s : Sound l ones twos row) (
 
 -- Acceptance of a withdrawal.
 pub record Taken (len : ℕ) (row : List Ticket) (w : Withdrawal) : Type 0 where
+  pub told : withdraw_verdict len row w ≡ accepted
   pub table : refuses (records_verdict len row w.lasts) ≡ false
   pub office : up_to offices w.office ≡ true
   pub waits : has_number w.number (waiting w.office row) ≡ true
@@ -151,15 +156,17 @@ pub record Taken (len : ℕ) (row : List Ticket) (w : Withdrawal) : Type 0 where
 pub withdraw_accepted : (len : ℕ) (row : List Ticket) (w : Withdrawal) → refuses (withdraw_verdict len row w) ≡ false → Taken len row w
 unfolding withdraw_verdict
 withdraw_accepted len row w e =
-    let each = all_accept (records_verdict len row w.lasts ∷ refuse_if (not (is_waiting w.office w.number row)) NotWaiting ∷ []) e in
+    let checks = records_verdict len row w.lasts ∷ refuse_if (not (is_waiting w.office w.number row)) NotWaiting ∷ [] in
+    let each = all_accept checks e in
     let it = not-false (is_waiting w.office w.number row) (accepts_if (not (is_waiting w.office w.number row)) NotWaiting refl each.1.0) in
     let both = and_true_both (up_to offices w.office) (has_number w.number (waiting w.office row)) it in
-    record { table = each.0; office = both.0; waits = both.1 }
+    record { told = none_refuses checks e; table = each.0; office = both.0; waits = both.1 }
 
-module _ (len : ℕ) (row : List Ticket) (w : Withdrawal) (v : Verdict) (is : v ≡ withdraw_verdict len row w) where
-  pub withdraw_refused : refuses v ≡ true → ◌≡◌ {A = WithdrawnRow} (record { withdrawn = record { verdict = v; lasts = w.lasts }; row = row }) (withdraw_row len row w)
+module _ (len : ℕ) (row : List Ticket) (w : Withdrawal) where
+  pub withdraw_refused : (v : Verdict) → Err v ≡ checked (withdraw_verdict len row w)
+      → ◌≡◌ {A = WithdrawnRow} (record { withdrawn = record { verdict = v; lasts = w.lasts }; row = row }) (withdraw_row len row w)
   unfolding withdraw_row
-  withdraw_refused e = rw (← is, e)
+  withdraw_refused v said = let s = stopped _ v said in rw (s.so, s.is) refl
 
   left_by : (l : Lasts) → Sound l (waiting 1 row) (waiting 2 row) row → (o n : ℕ) → (o ≡ 1) ⊎ (o ≡ 2) → has_number n (waiting o row) ≡ true
       → paste row (first_place o) (closed_up (first_place o) (index_of n (waiting o row)) 1 row) places
@@ -182,12 +189,13 @@ module _ (len : ℕ) (row : List Ticket) (w : Withdrawal) (v : Verdict) (is : v 
           let i = index_in n (waiting 2 row) h2 in
           rw (e, without_index n (waiting 2 row) h2) (closed_two l (waiting 1 row) (waiting 2 row) row s (index_of n (waiting 2 row)) (omega arith))
 
-  pub withdraw_left : length row ≡ all_places → refuses v ≡ false → (i p : ℕ) (next : List Ticket)
+  pub withdraw_left : (u : Unit) → Ok u ≡ checked (withdraw_verdict len row w) → length row ≡ all_places → (i p : ℕ) (next : List Ticket)
       → i ≡ index_of w.number (waiting w.office row) → p ≡ first_place w.office → next ≡ paste row p (closed_up p i 1 row) places
-      → ◌≡◌ {A = WithdrawnRow} (record { withdrawn = record { verdict = v; lasts = w.lasts }; row = next }) (withdraw_row len row w)
+      → ◌≡◌ {A = WithdrawnRow} (record { withdrawn = record { verdict = accepted; lasts = w.lasts }; row = next }) (withdraw_row len row w)
   unfolding withdraw_row
-  withdraw_left all e i p next i-is p-is next-is =
-      let a = withdraw_accepted len row w (rw is at e) in
-      rw (← is, e, next-is, i-is, p-is)
-      (ap {B = WithdrawnRow} (λ r. record { withdrawn = record { verdict = v; lasts = w.lasts }; row = r })
+  withdraw_left u said all i p next i-is p-is next-is =
+      let e = passed _ u said in
+      let a = withdraw_accepted len row w e in
+      rw (e, a.told, next-is, i-is, p-is)
+      (ap {B = WithdrawnRow} (λ r. record { withdrawn = record { verdict = accepted; lasts = w.lasts }; row = r })
       (left_by w.lasts (accepted_sound len row w.lasts all a.table) w.office w.number (office_is w.office a.office) a.waits))

@@ -4,13 +4,14 @@
 
 ghost use Rattle.std.specs.Prelude.{◌≡◌, ◌||◌, ◌<◌, ◌≤◌, length, get_or};
 ghost use Rattle.std.proofs.Math.Seq.{paste};
-ghost use Rattle.refusals.specs.Refusals.{first_where};
+ghost use Rattle.refusals.specs.Refusals.{checked, refuse_at, first_where};
+ghost use Rattle.refusals.specs.declared.Refusal.TheVariants.{BadRecord};
 ghost use Rattle.desk_tickets.specs.WaitingTable.{is_empty_place, up_to, is_ticket, follows, last_of, first_place, waiting, office_at, is_first_place, bad_record, records_verdict, placed, row_without, no_ticket, places};
 ghost use Rattle.desk_tickets.specs.Filings.{in_range, file_verdict, lasts_with, file_row};
 ghost use Rattle.desk_tickets.specs.Withdrawals.{is_waiting, withdraw_verdict, withdraw_row};
 ghost use Rattle.desk_tickets.specs.Private.{closed_up, index_of};
 
-use refusals::{Refusal, Verdict, refuse_at, refuse_if, refused};
+use refusals::{Refusal, Verdict};
 
 pub const OFFICES: u64 = 2;
 
@@ -26,7 +27,7 @@ pub const MOST_COUNT: u64 = 128;
 pub const MOST_NUMBER: u64 = 65535;
 
 // A record of the waiting table: a ticket, or an empty place, all fields 0.
-#[derive(Clone, Copy)]
+#[derive(Clone, Copy, PartialEq, Eq)]
 pub struct Ticket {
     pub office: u64,
     pub file: u64,
@@ -34,7 +35,16 @@ pub struct Ticket {
     pub number: u64,
 }
 
+// An empty place.
+pub const NO_TICKET: Ticket = Ticket {
+    office: 0,
+    file: 0,
+    count: 0,
+    number: 0,
+};
+
 // The last number given to each office; 0: none yet.
+// Stays: 0 and no Option, since C's row of last numbers has it so in `violstream_file`, and `number_for` counts on from it.
 #[derive(Clone, Copy)]
 pub struct Lasts {
     pub one: u64,
@@ -52,6 +62,7 @@ pub struct Filing {
 }
 
 // What a filing answers: the ticket's number, 0 on a refusal, and the last numbers given.
+// Stays: one record and no Result, since the promises read its fields on a refusal too: its number in SaysNoMore, its last numbers in RefusedChangesNothing.
 #[derive(Clone, Copy)]
 pub struct Filed {
     pub verdict: Verdict,
@@ -60,6 +71,7 @@ pub struct Filed {
 }
 
 // The same with the row afterwards.
+// Stays: rows of an array, since the record is copied, and the house works without a heap.
 #[derive(Clone, Copy)]
 pub struct FiledRow {
     pub filed: Filed,
@@ -75,6 +87,7 @@ pub struct Withdrawal {
 }
 
 // What a withdrawal answers, and the last numbers as they were.
+// Stays: one record and no Result, since RefusedChangesNothing in the promises reads its last numbers on a refusal too.
 #[derive(Clone, Copy)]
 pub struct Withdrawn {
     pub verdict: Verdict,
@@ -82,6 +95,9 @@ pub struct Withdrawn {
 }
 
 // The same with the row afterwards.
+// Stays: one such record for each answer and none over them all, whose one field would have a name that says less: the promises read `filed`, `withdrawn`,
+// `boarded` and `told`.
+// Stays: rows of an array, since the record is copied, and the house works without a heap.
 #[derive(Clone, Copy)]
 pub struct WithdrawnRow {
     pub withdrawn: Withdrawn,
@@ -91,51 +107,31 @@ pub struct WithdrawnRow {
 fn is_empty(t: Ticket) -> bool
     ensures { result ≡ is_empty_place t }
 {
-    if t.office != 0 {
-        return false;
-    }
-    if t.file != 0 {
-        return false;
-    }
-    if t.count != 0 {
-        return false;
-    }
-    t.number == 0
+    t == NO_TICKET
 }
 
 // Whether a number is one of 1 to `most`.
 fn up_to(most: u64, n: u64) -> bool
     ensures { result ≡ up_to most n }
 {
-    if n == 0 {
-        return false;
-    }
-    n <= most
+    n != 0 && n <= most
 }
 
 // Whether a record is a ticket of an office whose last number is `last`.
 fn is_ticket(office: u64, last: u64, t: Ticket) -> bool
     ensures { result ≡ is_ticket office last t }
 {
-    if t.office != office {
-        return false;
-    }
-    if up_to(runs::MOST_FILES as u64, t.file) {
-        if up_to(MOST_COUNT, t.count) {
-            return up_to(last, t.number);
-        }
-    }
-    false
+    t.office == office
+        && up_to(runs::MOST_FILES as u64, t.file)
+        && up_to(MOST_COUNT, t.count)
+        && up_to(last, t.number)
 }
 
 // Whether a ticket may stand directly behind a record of the same office.
 fn follows_on(ahead: Ticket, t: Ticket) -> bool
     ensures { result ≡ follows ahead t }
 {
-    if is_empty(ahead) {
-        return false;
-    }
-    ahead.number < t.number
+    !is_empty(ahead) && ahead.number < t.number
 }
 
 // The last number given to an office.
@@ -155,10 +151,7 @@ fn office_at(i: usize) -> u64
 fn is_first_place(i: usize) -> bool
     ensures { result ≡ is_first_place i }
 {
-    if i == 0 {
-        return true;
-    }
-    i == PLACES
+    i == 0 || i == PLACES
 }
 
 // Whether a record is not so.
@@ -167,44 +160,31 @@ fn bad_record(row: [Ticket; 32], lasts: Lasts, i: usize) -> bool
     ensures { result ≡ bad_record lasts row i }
 {
     let t = row[i];
-    if is_empty(t) {
-        return false;
-    }
     let office = office_at(i);
-    let last = last_of(office, lasts);
-    if is_ticket(office, last, t) {
-        if is_first_place(i) {
-            return false;
-        }
-        let ahead = row[i - 1];
-        return !follows_on(ahead, t);
-    }
-    true
+    !is_empty(t)
+        && (!is_ticket(office, last_of(office, lasts), t)
+            || !is_first_place(i) && !follows_on(row[i - 1], t))
 }
 
-// The first bad record, counted from 1; 0 where there is none.
-fn first_bad_record(row: [Ticket; 32], lasts: Lasts) -> u64
-    ensures { result ≡ first_where (bad_record lasts row) 32 }
+// The verdict on the records of a row: 26 at the first bad one, counted from 1.
+fn judge_records(row: [Ticket; 32], lasts: Lasts) -> Result<(), Verdict>
+    ensures { result ≡ checked (refuse_at (first_where (bad_record lasts row) 32) BadRecord) }
 {
-    let mut i: usize = 0;
-    while i < ALL_PLACES {
+    for i in 0..ALL_PLACES {
         if bad_record(row, lasts, i) {
-            return (i + 1) as u64;
+            return Refusal::BadRecord.at((i + 1) as u64);
         }
-        i += 1;
     }
-    0
+    Ok(())
 }
 
 // The verdict on a lent row of so many places that begins with these records, by the last numbers given: 8, then 26.
-pub fn judge_row(len: usize, row: [Ticket; 32], lasts: Lasts) -> Verdict
-    ensures { result ≡ records_verdict len row lasts }
+#[tactic(auto, unfolding(crate::specs::WaitingTable::records_verdict))]
+pub fn judge_row(len: usize, row: [Ticket; 32], lasts: Lasts) -> Result<(), Verdict>
+    ensures { result ≡ checked (records_verdict len row lasts) }
 {
-    let short = refuse_if(len < ALL_PLACES, Refusal::ShortRow);
-    if refused(short) {
-        return short;
-    }
-    refuse_at(first_bad_record(row, lasts), Refusal::BadRecord)
+    Refusal::ShortRow.when(len < ALL_PLACES)?;
+    judge_records(row, lasts)
 }
 
 // The first place of an office, counted from 0.
@@ -219,51 +199,35 @@ pub fn count_waiting(row: [Ticket; 32], office: u64) -> usize
     ensures { result ≡ length (waiting office row) }
 {
     let first = first_place(office);
-    let mut n: usize = 0;
-    while n < PLACES {
-        let t = row[first + n];
-        if is_empty(t) {
+    for n in 0..PLACES {
+        if is_empty(row[first + n]) {
             return n;
         }
-        n += 1;
     }
-    n
+    PLACES
 }
 
 // Whether all of a filing is in range.
 fn in_range(filing: Filing) -> bool
     ensures { result ≡ in_range filing }
 {
-    let file = filing.file;
-    if up_to(OFFICES, filing.office) {
-        if up_to(filing.files, file) {
-            if up_to(runs::MOST_FILES as u64, file) {
-                return up_to(MOST_COUNT, filing.count);
-            }
-        }
-    }
-    false
+    up_to(OFFICES, filing.office)
+        && up_to(filing.files, filing.file)
+        && up_to(runs::MOST_FILES as u64, filing.file)
+        && up_to(MOST_COUNT, filing.count)
 }
 
 // The verdict on a filing: 8 and 26, then 15, then 16, then 18.
-fn judge_filing(len: usize, row: [Ticket; 32], filing: Filing) -> Verdict
-    ensures { result ≡ file_verdict len row filing }
+#[tactic(auto, unfolding(crate::specs::Filings::file_verdict))]
+fn judge_filing(len: usize, row: [Ticket; 32], filing: Filing) -> Result<(), Verdict>
+    ensures { result ≡ checked (file_verdict len row filing) }
 {
-    let lasts = filing.lasts;
-    let table = judge_row(len, row, lasts);
-    if refused(table) {
-        return table;
-    }
-    let ticket = refuse_if(!in_range(filing), Refusal::BadTicket);
-    if refused(ticket) {
-        return ticket;
-    }
     let office = filing.office;
-    let full = refuse_if(PLACES <= count_waiting(row, office), Refusal::OfficeFull);
-    if refused(full) {
-        return full;
-    }
-    refuse_if(MOST_NUMBER <= last_of(office, lasts), Refusal::NumbersSpent)
+    let lasts = filing.lasts;
+    judge_row(len, row, lasts)?;
+    Refusal::BadTicket.when(!in_range(filing))?;
+    Refusal::OfficeFull.when(PLACES <= count_waiting(row, office))?;
+    Refusal::NumbersSpent.when(MOST_NUMBER <= last_of(office, lasts))
 }
 
 // The last numbers once an office has been given this one.
@@ -286,10 +250,9 @@ fn lasts_with(office: u64, number: u64, lasts: Lasts) -> Lasts
 pub fn file_in(len: usize, row: [Ticket; 32], filing: Filing) -> FiledRow
     ensures { result ≡ file_row len row filing }
 {
-    let verdict = judge_filing(len, row, filing);
     let lasts = filing.lasts;
     let mut next = row;
-    if refused(verdict) {
+    if let Err(verdict) = judge_filing(len, row, filing) {
         return FiledRow {
             filed: Filed {
                 verdict,
@@ -311,7 +274,7 @@ pub fn file_in(len: usize, row: [Ticket; 32], filing: Filing) -> FiledRow
     let given = lasts_with(office, number, lasts);
     FiledRow {
         filed: Filed {
-            verdict,
+            verdict: Verdict::accepted(),
             number,
             lasts: given,
         },
@@ -333,12 +296,7 @@ fn moved_up(row: [Ticket; 32], first: usize, p: usize, n: usize, i: usize) -> Ti
             return row[first + (i + n)];
         }
     }
-    Ticket {
-        office: 0,
-        file: 0,
-        count: 0,
-        number: 0,
-    }
+    NO_TICKET
 }
 
 // One office's places, once n from its place p on have left; the others as they were.
@@ -347,11 +305,8 @@ fn close_up(row: [Ticket; 32], first: usize, p: usize, n: usize) -> [Ticket; 32]
     ensures { result ≡ paste row first (closed_up first p n row) places }
 {
     let mut next = row;
-    let mut i: usize = 0;
-    while i < PLACES {
-        let t = moved_up(row, first, p, n, i);
-        next[first + i] = t;
-        i += 1;
+    for i in 0..PLACES {
+        next[first + i] = moved_up(row, first, p, n, i);
     }
     next
 }
@@ -370,13 +325,10 @@ fn index_of(row: [Ticket; 32], office: u64, number: u64) -> usize
 {
     let first = first_place(office);
     let n = count_waiting(row, office);
-    let mut i: usize = 0;
-    while i < n {
-        let t = row[first + i];
-        if t.number == number {
+    for i in 0..n {
+        if row[first + i].number == number {
             return i;
         }
-        i += 1;
     }
     n
 }
@@ -385,32 +337,25 @@ fn index_of(row: [Ticket; 32], office: u64, number: u64) -> usize
 fn is_waiting(row: [Ticket; 32], office: u64, number: u64) -> bool
     ensures { result ≡ is_waiting office number row }
 {
-    if up_to(OFFICES, office) {
-        return index_of(row, office, number) < count_waiting(row, office);
-    }
-    false
+    up_to(OFFICES, office) && index_of(row, office, number) < count_waiting(row, office)
 }
 
 // The verdict on a withdrawal: 8 and 26, then 17.
-fn judge_withdrawal(len: usize, row: [Ticket; 32], withdrawal: Withdrawal) -> Verdict
-    ensures { result ≡ withdraw_verdict len row withdrawal }
+#[tactic(auto, unfolding(crate::specs::Withdrawals::withdraw_verdict))]
+fn judge_withdrawal(len: usize, row: [Ticket; 32], withdrawal: Withdrawal) -> Result<(), Verdict>
+    ensures { result ≡ checked (withdraw_verdict len row withdrawal) }
 {
-    let lasts = withdrawal.lasts;
-    let table = judge_row(len, row, lasts);
-    if refused(table) {
-        return table;
-    }
+    judge_row(len, row, withdrawal.lasts)?;
     let waits = is_waiting(row, withdrawal.office, withdrawal.number);
-    refuse_if(!waits, Refusal::NotWaiting)
+    Refusal::NotWaiting.when(!waits)
 }
 
 // Withdraws a ticket: the answer, and the row afterwards.
 pub fn withdraw_in(len: usize, row: [Ticket; 32], withdrawal: Withdrawal) -> WithdrawnRow
     ensures { result ≡ withdraw_row len row withdrawal }
 {
-    let verdict = judge_withdrawal(len, row, withdrawal);
     let lasts = withdrawal.lasts;
-    if refused(verdict) {
+    if let Err(verdict) = judge_withdrawal(len, row, withdrawal) {
         return WithdrawnRow {
             withdrawn: Withdrawn { verdict, lasts },
             row,
@@ -420,7 +365,10 @@ pub fn withdraw_in(len: usize, row: [Ticket; 32], withdrawal: Withdrawal) -> Wit
     let at = index_of(row, office, withdrawal.number);
     let next = close_up(row, first_place(office), at, 1);
     WithdrawnRow {
-        withdrawn: Withdrawn { verdict, lasts },
+        withdrawn: Withdrawn {
+            verdict: Verdict::accepted(),
+            lasts,
+        },
         row: next,
     }
 }

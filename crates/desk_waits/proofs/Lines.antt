@@ -1,11 +1,11 @@
 -- The lines of tickets that wait, one behind the other, and the text of them all.
-use Prim.Native.Nat.{ℕ, suc, ◌+◌, ◌*◌, ◌≤◌, ◌<◌}
+use Prim.Native.Nat.{ℕ, ◌+◌, ◌-◌, ◌*◌, ◌≤◌, ◌<◌}
 use mathlib.Core.Path.{◌≡◌, refl, sym, ap, subst, ◌∙◌}
-use mathlib.Core.List.{List, [], ◌∷◌, ◌++◌}
+use mathlib.Core.List.{List, [], ◌++◌}
 use native.Mathlib.Omega.{arith}
 use native.Mathlib.Numerals.{add-one}
 use lib.ListN.{length, get_or, take, drop, drop_of_length-le, length-drop}
-use lib.Seq.{drop-cons, get_or-take, get_or-drop, length-take-le}
+use lib.Seq.{drop-cons, length-take-le}
 use Rattle.text_pages.specs.Printing.{pair_line, Wrote, Put}
 use Rattle.text_pages.proofs.Pages.{wrote_both, wrote_on, wrote_within}
 use Rattle.desk_tickets.specs.declared.Ticket.{Ticket}
@@ -27,10 +27,16 @@ module _ (row : List Ticket) (all : length row ≡ 32) (first n : ℕ) (fits : f
   pub tickets_long : length (take n (drop first row)) ≡ n
   tickets_long = length-take-le n (drop first row) (rw (length-drop first row, all) (omega arith))
 
+  -- The code's own part of the row.
+  same : first + n - first ≡ n
+  same = omega arith
+
+  pub part_long : length (take (first + n - first) (drop first row)) ≡ n
+  part_long = rw same tickets_long
+
   pub waits_left : (i : ℕ) → i < n
-      → waits_lines i (drop i (take n (drop first row))) ≡ waits_line i (get_or row (first + i) no_ticket) ++ waits_lines (i + 1) (drop (i + 1) (take n (drop first row)))
-  waits_left i l =
-      left_of_here (take n (drop first row)) i (rw tickets_long l) (get_or row (first + i) no_ticket) (sym (get_or-take n (drop first row) i no_ticket l ∙ get_or-drop first row i no_ticket))
+      → waits_lines i (drop i (take n (drop first row))) ≡ waits_line i (get_or (take (first + n - first) (drop first row)) i no_ticket) ++ waits_lines (i + 1) (drop (i + 1) (take n (drop first row)))
+  waits_left i l = rw same (left_of_here (take n (drop first row)) i (rw tickets_long l) (get_or (take n (drop first row)) i no_ticket) refl)
 
   pub waits_over : (i : ℕ) → n ≤ i → waits_lines i (drop i (take n (drop first row))) ≡ []
   waits_over i l = over_at_here (take n (drop first row)) i (rw tickets_long l)

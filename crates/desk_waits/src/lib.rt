@@ -8,7 +8,6 @@ ghost use Rattle.desk_waits.specs.Waits.{waits_line, waits_lines, waiting_text, 
 ghost use Rattle.desk_waits.specs.Private.{Waiters};
 
 use desk_tickets::{Lasts, MOST_NUMBER, PLACES, Ticket};
-use refusals::refused;
 use sheet_writer::{Written, hand_out};
 use text_pages::{put, put_number, put_pair, put_pair_line, put_triple_line};
 
@@ -33,11 +32,8 @@ fn put_waits(page: &mut [u8], at: usize, row: [Ticket; 32], first: usize, n: usi
     ensures { Wrote page.old at (waits_lines 0 (take n (drop first row))) (n * 132) page.new result }
 {
     let mut next = at;
-    let mut i: usize = 0;
-    while i < n {
-        let t = row[first + i];
-        next = put_wait(page, next, t, i as u64);
-        i += 1;
+    for (i, t) in row[first..first + n].iter().enumerate() {
+        next = put_wait(page, next, *t, i as u64);
     }
     next
 }
@@ -71,8 +67,7 @@ pub fn tell_waiting(len: usize, row: [Ticket; 32], out: &mut [u8]) -> Written
         one: MOST_NUMBER,
         two: MOST_NUMBER,
     };
-    let verdict = desk_tickets::judge_row(len, row, any);
-    if refused(verdict) {
+    if let Err(verdict) = desk_tickets::judge_row(len, row, any) {
         return sheet_writer::answer_to(verdict, 0);
     }
     let ones = desk_tickets::count_waiting(row, 1);

@@ -1,26 +1,29 @@
 -- 24 at its place in the order of the checks: after 1, 2 and 3, and before all others.
 use Prim.Native.Nat.{ℕ, zero, suc, ◌≤◌}
 use mathlib.Core.Path.{◌≡◌, refl, sym, ap, ◌∙◌}
-use mathlib.Core.Bool.{Bool, true, false, not, ◌||◌, true≢false}
+use mathlib.Core.Bool.{Bool, true, false, not, cond, ◌||◌, true≢false}
 use mathlib.Core.List.{List, [], ◌∷◌, ◌++◌}
 use native.Mathlib.Omega.{arith}
 use lib.ListN.{length}
 use lib.Dec.{ltb, eqb}
 use borrow.Author.Tests.{ltb-false}
+use Rattle.std.specs.Prelude.{Ok, Err}
 use Rattle.refusals.specs.declared.Refusal.{Refusal}
 use Rattle.refusals.specs.declared.Refusal.TheVariants.{FileRows, BadFile, WantRows, BadWant, TooManyReads, TurnPrice, HeadPlace, ShortRow, OverEightWants}
 use Rattle.refusals.specs.declared.Verdict.{Verdict}
 use Rattle.refusals.specs.Refusals.{refuse_if, refuse_at, first_of, first_where}
 use Rattle.refusals.proofs.Verdicts.{refuses, first_refuses, first_passes, first_alone, all_accept, accepts_if}
+use Rattle.refusals.proofs.Checked.{Refuses}
 use Rattle.runs.specs.Run.{Run, most_files, most_reads, highest_turn, last_place, total, stops_of}
 use Rattle.runs.specs.Judging.{right_end}
 use Rattle.runs.specs.Judging.{bad_file, bad_want, table_checks, wants_checks, head_checks, judge_of}
 use Rattle.runs.proofs.Judged.{accepted_run}
 use Rattle.runs.proofs.Stops.{stops_few}
-use Rattle.engine_stops.specs.Joining.{short_join_rows, join_verdict}
-use Rattle.engine_stops.proofs.Held.{fresh_rows, join_refused, join_judges}
+use Rattle.engine_stops.specs.Joining.{short_join_rows, join_verdict, join_answer}
+use Rattle.engine_stops.proofs.Said.{Accepts, answer_refuses, answer_accepts}
+use Rattle.engine_stops.proofs.Held.{fresh_rows, join_refused, join_judges, join_accepts}
 use Rattle.engine_plain.specs.Plain.{uneven_wants, most_plain_wants}
-use Rattle.engine_plain.specs.Private.{comes_first, with24}
+use Rattle.engine_plain.specs.Private.{comes_first, with24, answer24}
 
 -- A row of checks before another: the first that refuses, or what the others say.
 pub first_of_both : (vs ws : List Verdict) → refuses (first_of vs) ≡ true → first_of (vs ++ ws) ≡ first_of vs
@@ -192,6 +195,50 @@ module _ (r : Run) where
       by_table : (b : Bool) → refuses table ≡ b → with24 (joined) (length r.numbers) ≡ first_of (run_checks r)
       by_table true t = kept table (table_early t) t (judge_table_here t) ∙ first_refuses table (refuse_if (uneven_wants r) WantRows ∷ behind_table) t
       by_table false t = by_wants (uneven_wants r) t refl
+
+-- So the joining's answer, with 24 at its place, is these checks' or the number of stops.
+module _ (j : Verdict) (n m : ℕ) where
+  abbrev Same : Type 0
+  Same = answer24 (cond (refuses j) (Err j) (Ok n)) m ≡ cond (refuses (with24 j m)) (Err (with24 j m)) (Ok n)
+
+  no_refusal : (c : Bool) → refuses j ≡ false → ltb most_plain_wants m ≡ c → Same
+  no_refusal true h over = rw (h, over)
+  no_refusal false h few = rw (h, few, h)
+
+  still_refused : (b c : Bool) → refuses j ≡ true → comes_first j.refusal ≡ b → ltb most_plain_wants m ≡ c → refuses (with24 j m) ≡ true
+  still_refused true c h e o = ap refuses (with24_kept j m e) ∙ h
+  still_refused false true h e over = ap refuses (with24_over j m e over) ∙ ap (λ b. refuses (refuse_if b OverEightWants)) over
+  still_refused false false h e few = ap refuses (with24_few j m e few) ∙ h
+
+  some_refusal : refuses j ≡ true → Same
+  some_refusal h =
+      ap (λ b. answer24 (cond b (Err j) (Ok n)) m) h
+      ∙ sym (ap (λ b. cond b (Err (with24 j m)) (Ok n)) (still_refused (comes_first j.refusal) (ltb most_plain_wants m) h refl refl))
+
+  answer24_of : Same
+  answer24_of = go (refuses j) refl
+    where
+      go : (b : Bool) → refuses j ≡ b → Same
+      go true h = some_refusal h
+      go false h = no_refusal (ltb most_plain_wants m) h refl
+
+module _ (r : Run) where
+  answer_is : answer24 (join_answer r (fresh_rows 8)) (length r.numbers) ≡ cond (refuses (first_of (run_checks r))) (Err (first_of (run_checks r))) (Ok (length (stops_of r)))
+  unfolding join_answer
+  answer_is = answer24_of (join_verdict r (fresh_rows 8)) (length (stops_of r)) (length r.numbers) ∙ ap (λ v. cond (refuses v) (Err v) (Ok (length (stops_of r)))) (verdict_is r)
+
+  pub checks_stopped : (e : Verdict) → Err e ≡ answer24 (join_answer r (fresh_rows 8)) (length r.numbers) → Refuses (first_of (run_checks r)) e
+  checks_stopped e said = answer_refuses (first_of (run_checks r)) (length (stops_of r)) e (said ∙ answer_is)
+
+  pub checks_passed : (k : ℕ) → Ok k ≡ answer24 (join_answer r (fresh_rows 8)) (length r.numbers) → Accepts (first_of (run_checks r)) (length (stops_of r)) k
+  checks_passed k said = answer_accepts (first_of (run_checks r)) (length (stops_of r)) k (said ∙ answer_is)
+
+  -- What passes it the joining answered.
+  pub joined_so : (k : ℕ) → Ok k ≡ answer24 (join_answer r (fresh_rows 8)) (length r.numbers) → Ok k ≡ join_answer r (fresh_rows 8)
+  joined_so k said =
+      let all = checks_passed k said in
+      rw all.is
+      (join_accepts r 8 (few_stops r (run_few r all.passes)) (run_passed r all.passes))
 
 -- Where 1, 2 and 3 accept, what a run's own checks and a check of the rows find is none of the three.
 pub late_behind : (r : Run) (short : Bool) → refuses (first_of (table_checks r.starts r.lengths r.aggregates)) ≡ false → uneven_wants r ≡ false

@@ -1,12 +1,13 @@
 -- The joining in rows of eight: its verdict with 24 among the checks, and rows that hold the stops of a run that passes.
-use Prim.Native.Nat.{ℕ, zero, suc, ◌+◌, ◌-◌, ◌≤◌, ◌<◌}
-use mathlib.Core.Path.{◌≡◌, refl, sym, ap, ◌∙◌, subst, fun_ext}
+use Prim.Native.Nat.{ℕ, zero, suc, ◌-◌, ◌≤◌, ◌<◌}
+use mathlib.Core.Path.{◌≡◌, refl, sym, ap, ◌∙◌, fun_ext}
 use mathlib.Core.Bool.{false}
 use mathlib.Core.Logic.{by_cases}
 use mathlib.Core.List.{List, [], ◌∷◌, map}
 use native.Mathlib.Omega.{arith}
 use native.Mathlib.Decide.{dec_lt}
 use lib.ListN.{length, get_or, take, length-map, get_or-map}
+use Rattle.std.specs.Prelude.{Result, Ok}
 use Rattle.refusals.specs.declared.Verdict.{Verdict}
 use Rattle.refusals.specs.Refusals.{first_of}
 use Rattle.refusals.proofs.Verdicts.{refuses}
@@ -17,8 +18,8 @@ use Rattle.runs.specs.Lists.{Detour}
 use Rattle.runs.proofs.Sound.{Sound}
 use Rattle.runs.proofs.Judged.{accepted_run}
 use Rattle.runs.proofs.Stops.{accepted_sound}
-use Rattle.engine_stops.specs.declared.Joined.{Joined}
 use Rattle.engine_stops.specs.Joining.{JoinRows, join_answer, join_rows_of, length_of}
+use Rattle.engine_stops.proofs.Said.{Accepts}
 use Rattle.engine_stops.proofs.Held.{fresh_rows, Front}
 use Rattle.engine_stops.proofs.Held as held
 use Rattle.engine_stops.proofs.Table.{joined_reads}
@@ -26,8 +27,8 @@ use Rattle.least.specs.Recurrence.{plan_detours, best, least_list, file_at, left
 use Rattle.least.proofs.Times.{starts_rise}
 use Rattle.least.proofs.Walks.{sound_spaced}
 use Rattle.least.proofs.LeastList.{least_list_none, least_list_some}
-use Rattle.engine_plain.specs.Private.{start_at, stop_end, reads_at, name_of, Laid, StopRows, ListWritten, list_at, with24}
-use Rattle.engine_plain.proofs.Checks.{run_checks, run_passed, run_few, few_stops, verdict_is}
+use Rattle.engine_plain.specs.Private.{start_at, stop_end, reads_at, name_of, Laid, StopRows, ListWritten, list_at, answer24}
+use Rattle.engine_plain.proofs.Checks.{run_checks, run_few, few_stops, checks_passed, joined_so}
 use Rattle.least.proofs.Best.{best_none}
 use Rattle.engine_plain.proofs.Overlays.{written_same}
 use Rattle.engine_plain.proofs.Listed.{list_few}
@@ -103,17 +104,14 @@ module _ (r : Run) (accepts : refuses (judge_of r) ≡ false) where
   pub stop_rows_lem : StopRows (map (λ s. s.file) (stops_of r)) (map (λ s. s.start) (stops_of r)) (map length_of (stops_of r)) (map (λ s. s.count) (stops_of r)) r.turn
   stop_rows_lem = record { laid = stops_laid; named = length-map (stops_of r) (λ s. s.file) ∙ sym (length-map (stops_of r) (λ s. s.start)) }
 
-module _ (r : Run) (j : Joined) (after : JoinRows) (j-is : j ≡ join_answer r (fresh_rows 8)) (after_is : after ≡ join_rows_of r (fresh_rows 8)) where
-  pub join_verdict_lem : (v : Verdict) → v ≡ with24 j.verdict (length r.numbers) → v ≡ first_of (run_checks r)
-  unfolding join_answer
-  join_verdict_lem v is = is ∙ ap (λ x. with24 x.verdict (length r.numbers)) j-is ∙ verdict_is r
+-- Where the joining has passed with 24 among the checks, its rows hold the run's stops.
+module _ (r : Run) (k : ℕ) (j : Result ℕ Verdict) (after : JoinRows) (j-is : j ≡ join_answer r (fresh_rows 8)) (after_is : after ≡ join_rows_of r (fresh_rows 8))
+    (said : Ok k ≡ answer24 j (length r.numbers)) where
+  pub checks_accept : Accepts (first_of (run_checks r)) (length (stops_of r)) k
+  checks_accept = checks_passed r k (rw j-is at said)
 
-  module _ (passes : refuses (first_of (run_checks r)) ≡ false) where
-    pub join_stops : j.stops ≡ length (stops_of r)
-    join_stops = held.join_stops r 8 (few_stops r (run_few r passes)) j after j-is after_is (run_passed r passes)
-
-    pub join_front : Front j.stops after (stops_of r)
-    join_front = held.join_front r 8 (few_stops r (run_few r passes)) j after j-is after_is (run_passed r passes)
+  pub join_front : Front k after (stops_of r)
+  join_front = held.join_front r 8 (few_stops r (run_few r checks_accept.passes)) k (joined_so r k (rw j-is at said)) after after_is
 
 -- What the writing asks of rows whose first entries are the stops', and what it writes.
 module _ (r : Run) (accepts : refuses (judge_of r) ≡ false) (k : ℕ) (rows : JoinRows) (f : Front k rows (stops_of r)) where

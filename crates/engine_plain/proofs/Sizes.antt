@@ -3,7 +3,7 @@ use Prim.Native.Nat.{ℕ, zero, suc, ◌+◌, ◌-◌, ◌*◌, ◌≤◌, ◌<�
 use native.Mathlib.Omega.{arith}
 use native.Mathlib.Nat.{mul-le-mul}
 use native.Mathlib.Numerals.{add-one}
-use mathlib.Core.Path.{◌≡◌, refl, sym, ◌∙◌}
+use mathlib.Core.Path.{◌≡◌, sym, ◌∙◌}
 use mathlib.Core.List.{List, [], ◌∷◌}
 use lib.ListN.{length, get_or, take}
 use Rattle.runs.specs.Run.{last_place, highest_turn, most_reads, total, end_at}
@@ -37,7 +37,7 @@ module _ (reads : List ℕ) where
   unfolding reads_up_to
   reads_first n h = total_first reads n h
 
-  pub reads_counted : (n : ℕ) → n ≤ length reads → total reads ≤ most_reads → counted_reads (take n reads) ≡ reads_up_to reads n
+  reads_counted : (n : ℕ) → n ≤ length reads → total reads ≤ most_reads → counted_reads (take n reads) ≡ reads_up_to reads n
   reads_counted n h small = counted_exact (take n reads) (omega (arith, total_part reads n)) ∙ reads_first n h
 
   pub reads_within : (n : ℕ) → n ≤ length reads → reads_up_to reads n ≤ total reads
@@ -66,6 +66,9 @@ module _ (lefts spans reads : List ℕ) (turn a b s : ℕ) (q : Asked lefts span
         near = left_near lefts spans reads turn q.laid b q.inside;
         few = count_few lefts spans reads turn q.laid b q.inside;
       }
+
+  pub left_counted : a ≤ b → (left : ℕ) → left ≡ counted_reads (take a reads) → left ≡ reads_up_to reads a
+  left_counted h left is = is ∙ reads_counted reads a (omega (arith, q.inside, q.laid.even_reads)) q.laid.few
 
   pub waiting_few : a ≤ b → reads_up_to reads a + s ≤ most_reads
   waiting_few h = omega (arith, q.span, reads_rise reads a (b + 1) (omega arith))

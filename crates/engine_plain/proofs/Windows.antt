@@ -1,12 +1,13 @@
 -- The windows that a choice asks, what it makes of them, and the loops over the choices of a window.
-use Prim.Native.Nat.{ℕ, zero, suc, ◌+◌, ◌-◌, ◌*◌, ◌≤◌, ◌<◌}
+use Prim.Native.Nat.{ℕ, zero, suc, ◌+◌, ◌-◌, ◌*◌, ◌≤◌, ◌<◌, min}
 use native.Mathlib.Omega.{arith}
+use native.Mathlib.Decide.{dec_lt}
 use native.Mathlib.Nat.{le_refl}
-use native.Mathlib.Numerals.{add-one}
+use borrow.Author.Tests.{lt-ltb, le-ltb}
 use mathlib.Core.Path.{◌≡◌, refl, sym, ap, ◌∙◌}
 use mathlib.Core.Bool.{Bool, true, false, cond}
 use mathlib.Core.List.{List}
-use lib.ListN.{length, get_or}
+use lib.ListN.{get_or}
 use lib.Dec.{ltb}
 use mir.Syntax.{w64}
 use mir.Val.{Fits}
@@ -15,7 +16,7 @@ use Rattle.least.specs.Recurrence.{W, early, wait, lower, lowest, scan, candidat
 use Rattle.least.proofs.Scan.{lowest_one_more, lowest_end, scan_one_more, scan_end}
 use Rattle.least.proofs.Value.{value_none, value_step}
 use Rattle.least.proofs.Bounds.{candidate_bound}
-use Rattle.engine_plain.specs.Private.{start_at, stop_end, reads_at, reads_up_to, Laid, Asked, MayChoose, worth, choice_worth, chosen_at}
+use Rattle.engine_plain.specs.Private.{start_at, stop_end, reads_at, reads_up_to, Asked, MayChoose, worth, choice_worth, chosen_at}
 use Rattle.engine_plain.proofs.Sizes.{reads_more, reads_rise, left_near, asked_early, early_small, wait_small}
 
 -- A window with a stop has one at its end, which lies in each row of the stops; and a number of reads fits a word.
@@ -127,11 +128,18 @@ worth_either : (f : ℕ → ℕ) (t : Bool) (c k : ℕ) → cond t (f c) (f k) �
 worth_either f true c k = refl
 worth_either f false c k = refl
 
-pub may_skip : (a b : ℕ) → a < b → MayChoose a b 0
-may_skip a b h = record { some = h; up_to = omega arith; after = λ k. omega arith }
+-- The lower of two, as `min` takes it; and a choice that is lower comes before the one at hand, another does not.
+pub lower_min : (x y low : ℕ) → low ≡ min x y → low ≡ lower x y
+lower_min x y low is = elim (dec_lt y x) [ yes h ↦ rw (lt-ltb y x h) (omega arith) | no n ↦ rw (le-ltb y x (omega arith)) (omega arith) ]
 
-pub may_detour : (a b c : ℕ) → a < b → c ≤ b → a < c → MayChoose a b c
-may_detour a b c h k l = record { some = h; up_to = k; after = λ m. l }
+abbrev pub Sooner : ℕ → ℕ → ℕ → ℕ → ℕ → ℕ → Type 0
+Sooner at least c cost at' low = (at' ≡ cond (ltb cost least) c at) × (low ≡ lower least cost)
+
+pub sooner : (at least c cost at' low : ℕ) → cost < least → at' ≡ c → low ≡ cost → Sooner at least c cost at' low
+sooner at least c cost at' low h at-is low-is = (rw (lt-ltb cost least h) at-is, rw (lt-ltb cost least h) low-is)
+
+pub not_sooner : (at least c cost at' low : ℕ) → least ≤ cost → at' ≡ at → low ≡ least → Sooner at least c cost at' low
+not_sooner at least c cost at' low h at-is low-is = (rw (le-ltb cost least h) at-is, rw (le-ltb cost least h) low-is)
 
 module _ (lefts spans reads : List ℕ) (turn a b s : ℕ) where
   pub window_starts : a < b → (least : ℕ) → least ≡ choice_worth lefts spans reads turn a b s 0 → WindowLoop lefts spans reads turn a b s least b

@@ -1,12 +1,15 @@
 -- The stops in rows and the recurrence over them, for the contracts of private functions. No public contract cites this file.
-use Rattle.std.specs.Prelude.{ℕ, zero, suc, ◌+◌, ◌-◌, ◌≤◌, ◌<◌, ◌≡◌, Bool, not, cond, ◌&&◌, ◌||◌, List, [], ◌∷◌, map, length, get_or, ltb, leb, eqb}
+use Rattle.std.specs.Prelude.{ℕ, zero, suc, ◌+◌, ◌-◌, ◌≤◌, ◌<◌, ◌≡◌, Result, Ok, Err, Bool, true, false, not, cond, ◌&&◌, ◌||◌, List, [], ◌∷◌, ◌++◌, map, length, drop, get_or, ltb, leb, eqb}
+use denote.Triple.Both.{Both}
 use Rattle.refusals.specs.declared.Refusal.{Refusal}
 use Rattle.refusals.specs.declared.Refusal.TheVariants.{OverEightWants}
 use Rattle.refusals.specs.declared.Verdict.{Verdict}
-use Rattle.refusals.specs.Refusals.{number_of}
-use Rattle.runs.specs.Run.{end_at, total, last_place, highest_turn, most_reads}
+use Rattle.refusals.specs.Refusals.{number_of, is_refusal}
+use Rattle.runs.specs.Rows.{Lent, MutRow}
+use Rattle.runs.specs.Run.{Run, end_at, total, last_place, highest_turn, most_reads}
 use Rattle.runs.specs.Lists.{Detour}
-use Rattle.engine_plain.specs.Plain.{most_plain_wants}
+use Rattle.engine_plain.specs.Plain.{PlainRows, plain_rows, plain_verdict, most_plain_wants}
+use Rattle.least.specs.Least.{LeastForRun}
 use Rattle.least.specs.Recurrence.{W, value, candidate, choice, plan_detours, best}
 
 -- Where stop i starts and ends, how often it is wanted and its first file, from 0 and read off the rows.
@@ -104,6 +107,32 @@ comes_first kind = not (eqb (number_of kind) 0) && leb (number_of kind) 3
 abbrev pub with24 : Verdict → ℕ → Verdict
 with24 v wants = cond (comes_first v.refusal) v (cond (ltb most_plain_wants wants) (record { refusal = OverEightWants; place = 0 }) v)
 
+-- The same of what a joining answers: 24 also where it refuses nothing.
+abbrev pub answer24 : Result ℕ Verdict → ℕ → Result ℕ Verdict
+answer24 (Ok k) wants = cond (ltb most_plain_wants wants) (Err (record { refusal = OverEightWants; place = 0 })) (Ok k)
+answer24 (Err v) wants = Err (with24 v wants)
+
 -- 8, by the lengths of the rows.
 abbrev pub short_lengths : ℕ → ℕ → ℕ → ℕ → ℕ → ℕ → Bool
 short_lengths wants stops froms tos times legs = ltb times wants || ltb legs wants || ltb froms (stops - 1) || ltb tos (stops - 1)
+
+-- The rows that are handed in, of which those for times and legs are only judged by their lengths.
+abbrev pub plain_rows_judged : {T L : Type 0} → Both MutRow MutRow → Both MutRow MutRow → Lent T → Lent L → PlainRows
+plain_rows_judged froms tos times legs = plain_rows froms.entry.now tos.entry.now times.entry.now legs.entry.now
+
+-- The list, after all that the engine judges: a refusal and nothing changed, or the least list in the first entries of two rows.
+pub record PlainNotListed (v : Verdict) (before : PlainRows) (answer : Result ℕ Verdict) (froms tos : List ℕ) : Type 0 where
+  pub says : answer ≡ Err v
+  pub starts : froms ≡ before.froms
+  pub ends : tos ≡ before.tos
+
+pub record PlainListed (r : Run) (before : PlainRows) (answer : Result ℕ Verdict) (froms tos : List ℕ) : Type 0 where
+  pub list : List Detour
+  pub least : LeastForRun r list
+  pub says : answer ≡ Ok (length list)
+  pub starts : froms ≡ map (λ d. d.from) list ++ drop (length list) before.froms
+  pub ends : tos ≡ map (λ d. d.to) list ++ drop (length list) before.tos
+
+pub record PlainLists (r : Run) (before : PlainRows) (answer : Result ℕ Verdict) (froms tos : List ℕ) : Type 0 where
+  pub refused : is_refusal (plain_verdict r before).refusal ≡ true → PlainNotListed (plain_verdict r before) before answer froms tos
+  pub listed : is_refusal (plain_verdict r before).refusal ≡ false → PlainListed r before answer froms tos

@@ -1,6 +1,6 @@
 // What a window of stops costs, asked without a table: a window asks each choice for its last stop, and a choice asks smaller windows in turn.
-ghost use Rattle.std.specs.Prelude.{◌≡◌, cond, ◌+◌, ◌-◌, ◌*◌, ◌≤◌, ◌<◌, length, ltb};
-ghost use Rattle.least.specs.Recurrence.{lower, early, wait};
+ghost use Rattle.std.specs.Prelude.{◌≡◌, ◌≤◌, ◌<◌};
+ghost use Rattle.least.specs.Recurrence.{early, wait};
 ghost use Rattle.engine_plain.specs.Private.{start_at, stop_end, reads_at, EarlyFits, Asked, MayChoose, worth, choice_worth, chosen_at};
 
 // What stop b pays when it is read by the leg from stop a.
@@ -29,12 +29,6 @@ fn wait_of(
     2 * (turn + (lefts[b] + spans[b] - lefts[c])) * (left + s)
 }
 
-fn lower_of(x: u64, y: u64) -> u64
-    ensures { result ≡ lower x y }
-{
-    if y < x { y } else { x }
-}
-
 // The least that the window (a, b] can cost, with s reads skipped right of it: the lowest over the choices for its last stop.
 #[cycle(choice_window)]
 fn window(lefts: &[u64], spans: &[u64], reads: &[u64], turn: u64, a: usize, b: usize, s: u64) -> u64
@@ -45,10 +39,8 @@ fn window(lefts: &[u64], spans: &[u64], reads: &[u64], turn: u64, a: usize, b: u
         return 0;
     }
     let mut least = choice(lefts, spans, reads, turn, a, b, s, 0);
-    let mut c = b;
-    while a < c {
-        least = lower_of(least, choice(lefts, spans, reads, turn, a, b, s, c));
-        c -= 1;
+    for c in (a + 1..=b).rev() {
+        least = least.min(choice(lefts, spans, reads, turn, a, b, s, c));
     }
     least
 }
@@ -79,14 +71,8 @@ fn choice(
         + window(lefts, spans, reads, turn, a, c - 1, s)
 }
 
-// The choice at hand, or the one before it: another must be lower to come before it.
-fn sooner_of(at: usize, least: u64, c: usize, cost: u64) -> usize
-    ensures { result ≡ cond (ltb cost least) c at }
-{
-    if cost < least { c } else { at }
-}
-
 // The choice made for stop b of the window (a, b]: the first in the order 0, b, b - 1, .. that comes to the least.
+// Stays: 0 for a skip and no Option, since the choices of the recurrence (`choice`) are numbered so.
 pub(crate) fn chosen(
     lefts: &[u64],
     spans: &[u64],
@@ -100,14 +86,14 @@ pub(crate) fn chosen(
     requires a_lt_b { a < b }
     ensures { result ≡ chosen_at lefts.now spans.now reads.now turn a b s }
 {
-    let mut at: usize = 0;
+    let mut at = 0;
     let mut least = choice(lefts, spans, reads, turn, a, b, s, 0);
-    let mut c = b;
-    while a < c {
+    for c in (a + 1..=b).rev() {
         let cost = choice(lefts, spans, reads, turn, a, b, s, c);
-        at = sooner_of(at, least, c, cost);
-        least = lower_of(least, cost);
-        c -= 1;
+        if cost < least {
+            at = c;
+            least = cost;
+        }
     }
     at
 }

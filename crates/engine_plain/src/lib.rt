@@ -2,13 +2,13 @@
 // joining and on the pricer, and all is judged before the first write.
 #![tactic(auto)]
 
-ghost use Rattle.std.specs.Prelude.{◌≡◌, ◌||◌, ◌-◌, ltb};
+ghost use Rattle.std.specs.Prelude.{◌≡◌};
 ghost use Rattle.runs.specs.Rows.{run_at};
 ghost use Rattle.engine_plain.specs.Plain.{PlainPlans, plain_rows_before, plain_rows_after};
-ghost use Rattle.engine_plain.specs.Private.{comes_first, with24, short_lengths};
+ghost use Rattle.engine_plain.specs.Private.{comes_first, answer24, short_lengths, PlainLists, plain_rows_judged};
 
 use crate::writing::write_list;
-use refusals::{Refusal, Verdict, number, refused};
+use refusals::{Refusal, Verdict};
 use walk::Answer;
 
 mod asking;
@@ -21,28 +21,23 @@ pub const MOST_PLAIN_WANTS: usize = 8;
 fn comes_first(kind: Refusal) -> bool
     ensures { result ≡ comes_first kind }
 {
-    let n = number(kind);
-    if n == 0 {
-        return false;
-    }
-    n <= 3
+    matches!(
+        kind,
+        Refusal::FileRows | Refusal::BadFile | Refusal::WantRows
+    )
 }
 
-// The verdict of a run with 24 at its place, by the wants handed in.
-fn with_24(run: Verdict, wants: usize) -> Verdict
-    ensures { result ≡ with24 run wants }
+// The answer of a joining with 24 at its place, by the wants handed in.
+fn with_24(joined: Result<usize, Verdict>, wants: usize) -> Result<usize, Verdict>
+    ensures { result ≡ answer24 joined wants }
 {
-    let kind = run.refusal;
-    if comes_first(kind) {
-        return run;
+    if let Err(verdict) = joined {
+        if comes_first(verdict.refusal) {
+            return joined;
+        }
     }
-    if MOST_PLAIN_WANTS < wants {
-        return Verdict {
-            refusal: Refusal::OverEightWants,
-            place: 0,
-        };
-    }
-    run
+    Refusal::OverEightWants.when(MOST_PLAIN_WANTS < wants)?;
+    joined
 }
 
 // Whether a row is too short for a plan of so many wants and stops.
@@ -56,23 +51,12 @@ fn short_rows(
 ) -> bool
     ensures { result ≡ short_lengths wants stops froms tos times legs }
 {
-    if times < wants {
-        return true;
-    }
-    if legs < wants {
-        return true;
-    }
-    if stops == 0 {
-        return false;
-    }
-    if froms < stops - 1 {
-        return true;
-    }
-    tos < stops - 1
+    let most = stops.saturating_sub(1);
+    times < wants || legs < wants || froms < most || tos < most
 }
 
-// The plan of a run: its answer, and in the lent rows the list, the times and the legs.
-pub fn plan(
+// The least list of a run, after all that the engine judges: the number of its detours, or the first refusal that applies.
+fn list(
     starts: &[u64],
     lengths: &[u64],
     aggregates: &[u64],
@@ -82,10 +66,10 @@ pub fn plan(
     turn: u64,
     froms: &mut [u64],
     tos: &mut [u64],
-    times: &mut [u64],
-    legs: &mut [u64],
-) -> Answer
-    ensures { PlainPlans (run_at starts lengths aggregates numbers counts head turn) (plain_rows_before froms tos times legs) result (plain_rows_after froms tos times legs) }
+    times: &[u64],
+    legs: &[u64],
+) -> Result<usize, Verdict>
+    ensures { PlainLists (run_at starts lengths aggregates numbers counts head turn) (plain_rows_judged froms tos times legs) result froms.exit.now tos.exit.now }
 {
     let mut firsts = [0u64; 8];
     let mut lefts = [0u64; 8];
@@ -104,26 +88,16 @@ pub fn plan(
         &mut spans,
         &mut reads,
     );
-    let verdict = joined.verdict;
-    let run = with_24(verdict, numbers.len());
-    if refused(run) {
-        return walk::refuse(run);
-    }
-    let k = joined.stops;
-    if short_rows(
+    let k = with_24(joined, numbers.len())?;
+    Refusal::ShortRow.when(short_rows(
         numbers.len(),
         k,
         froms.len(),
         tos.len(),
         times.len(),
         legs.len(),
-    ) {
-        return walk::refuse(Verdict {
-            refusal: Refusal::ShortRow,
-            place: 0,
-        });
-    }
-    let n = write_list(
+    ))?;
+    Ok(write_list(
         &firsts[..k],
         &lefts[..k],
         &spans[..k],
@@ -131,18 +105,42 @@ pub fn plan(
         turn,
         froms,
         tos,
+    ))
+}
+
+// The plan of a run: its answer, and in the lent rows the list, the times and the legs.
+pub fn plan(
+    starts: &[u64],
+    lengths: &[u64],
+    aggregates: &[u64],
+    numbers: &[u64],
+    counts: &[u64],
+    head: u64,
+    turn: u64,
+    froms: &mut [u64],
+    tos: &mut [u64],
+    times: &mut [u64],
+    legs: &mut [u64],
+) -> Answer
+    ensures { PlainPlans (run_at starts lengths aggregates numbers counts head turn) (plain_rows_before froms tos times legs) result (plain_rows_after froms tos times legs) }
+{
+    let listed = list(
+        starts, lengths, aggregates, numbers, counts, head, turn, froms, tos, times, legs,
     );
-    walk::price(
-        starts,
-        lengths,
-        aggregates,
-        numbers,
-        counts,
-        head,
-        turn,
-        &froms[..n],
-        &tos[..n],
-        times,
-        legs,
-    )
+    match listed {
+        Ok(n) => walk::price(
+            starts,
+            lengths,
+            aggregates,
+            numbers,
+            counts,
+            head,
+            turn,
+            &froms[..n],
+            &tos[..n],
+            times,
+            legs,
+        ),
+        Err(verdict) => walk::refuse(verdict),
+    }
 }

@@ -1,5 +1,5 @@
 // The least list, written by asking again: at each stop the choice that its window makes, in the order in which the detours are done.
-ghost use Rattle.std.specs.Prelude.{◌≡◌, ◌+◌, ◌-◌, ◌≤◌, ◌<◌, length};
+ghost use Rattle.std.specs.Prelude.{◌+◌, ◌-◌, ◌≤◌, length};
 ghost use Rattle.engine_plain.specs.Private.{Asked, StopRows, ListFits, ListWritten, list_at};
 
 use crate::asking::chosen;

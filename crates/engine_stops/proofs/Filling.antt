@@ -1,8 +1,8 @@
 -- The two loops over the wants, from the last to the first: counting the stops, and filling the four rows.
-use Prim.Native.Nat.{ℕ, zero, suc, ◌+◌, ◌-◌, ◌≤◌, ◌<◌}
+use Prim.Native.Nat.{ℕ, suc, ◌+◌, ◌-◌, ◌≤◌, ◌<◌}
 use mathlib.Core.Path.{◌≡◌, refl, sym, ap, ◌∙◌}
 use mathlib.Core.Bool.{Bool, true, false, cond, true≢false}
-use mathlib.Core.Logic.{⊎_elim, ◌⊎◌}
+use mathlib.Core.Logic.{⊎_elim}
 use mathlib.Core.List.{List, [], ◌∷◌}
 use native.Mathlib.Omega.{arith}
 use lib.ListN.{length, get_or, drop, set, drop_of_length-le}
@@ -14,9 +14,9 @@ use Rattle.runs.proofs.Joined.{joined_fewer}
 use Rattle.runs.proofs.Judged.{GoodRun, accepted_run, wants_named}
 use Rattle.runs.proofs.Stops.{first_file_lem, wants_length, stops_few}
 use Rattle.engine_stops.specs.declared.Place.{Place}
-use Rattle.engine_stops.specs.Joining.{row_with, length_of}
-use Rattle.engine_stops.specs.Private.{WantsFit, JoinFits, place_of, joins_next}
-use Rattle.engine_stops.proofs.Joining.{Added, Joins, Begins, Filled, added, stops_counted, joined_nothing, filled_at, filled_more, filled_none, filled_all, reads_fit, count_fits}
+use Rattle.engine_stops.specs.Joining.{length_of}
+use Rattle.engine_stops.specs.Private.{WantsFit, place_of, joins_next}
+use Rattle.engine_stops.proofs.Joining.{Added, Joins, Begins, Filled, added, stops_counted, joined_nothing, filled_at, filled_more, filled_none, reads_fit, count_fits}
 
 -- The wants of an accepted run.
 pub good_fit : (r : Run) → GoodRun r → WantsFit r.aggregates r.numbers
@@ -64,10 +64,6 @@ none_left starts lengths aggregates ns cs even =
     let past : length (want_stops starts lengths aggregates ns cs) ≤ length ns = omega (arith, wants_length starts lengths aggregates ns cs even) in
     ap joined (drop_of_length-le (want_stops starts lengths aggregates ns cs) past) ∙ joined_nothing
 
-all_left : (l : List Stop) → drop 0 l ≡ l
-all_left [] = refl
-all_left (s ∷ l) = refl
-
 -- So many stops from the want at an index on.
 pub record Counting (aggregates ns : List ℕ) (count i : ℕ) : Type 0 where
   pub within : count + i ≤ length ns
@@ -92,11 +88,6 @@ module _ (aggregates ns : List ℕ) where
       few true e = omega (arith, p.within)
       few false e = omega (arith, p.within)
 
-  pub counting_all : (count i : ℕ) → Counting aggregates ns count i → i ≤ 0 → (starts lengths cs : List ℕ) → length cs ≡ length ns → count ≡ length (joined (want_stops starts lengths aggregates ns cs))
-  counting_all count i p l starts lengths cs even =
-      let z : i ≡ 0 = omega arith in
-      p.is starts lengths cs even ∙ ap (λ n. length (joined (drop n (want_stops starts lengths aggregates ns cs)))) z ∙ ap (λ s. length (joined s)) (all_left (want_stops starts lengths aggregates ns cs))
-
 -- The rows filled with the stops of the wants from an index on.
 pub record Filling (starts lengths aggregates ns cs : List ℕ) (k : ℕ) (f₀ l₀ s₀ r₀ f l s r : List ℕ) (at i : ℕ) : Type 0 where
   pub within : i ≤ length ns
@@ -105,6 +96,17 @@ pub record Filling (starts lengths aggregates ns cs : List ℕ) (k : ℕ) (f₀ 
   pub lefts : Filled (λ x. x.start) (joined (drop i (want_stops starts lengths aggregates ns cs))) k l₀ l at
   pub spans : Filled length_of (joined (drop i (want_stops starts lengths aggregates ns cs))) k s₀ s at
   pub reads : Filled (λ x. x.count) (joined (drop i (want_stops starts lengths aggregates ns cs))) k r₀ r at
+
+-- The entry that a want is written at, and the reads that are there already: the stop at hand and its reads, or the entry before it and none.
+pub record Taken (same : Bool) (at : ℕ) (reads : List ℕ) (to c : ℕ) : Type 0 where
+  pub to_is : to ≡ cond same at (at - 1)
+  pub carried : c ≡ cond same (get_or reads to 0) 0
+
+pub taken_joined : (same : Bool) (at : ℕ) (reads : List ℕ) (to c : ℕ) → same ≡ true → to ≡ at → c ≡ get_or reads at 0 → Taken same at reads to c
+taken_joined same at reads to c e to_is c-is = record { to_is = rw e to_is; carried = rw (e, to_is) c-is }
+
+pub taken_anew : (same : Bool) (at : ℕ) (reads : List ℕ) (to c : ℕ) → same ≡ false → to ≡ at - 1 → c ≡ 0 → Taken same at reads to c
+taken_anew same at reads to c e to_is c-is = record { to_is = rw e to_is; carried = rw e c-is }
 
 module _ (starts lengths aggregates ns cs : List ℕ) (even : length cs ≡ length ns) (k : ℕ) where
   pub filling_none : (f l s r : List ℕ) → Filling starts lengths aggregates ns cs k f l s r f l s r k (length ns)
@@ -121,22 +123,6 @@ module _ (starts lengths aggregates ns cs : List ℕ) (even : length cs ≡ leng
 
   module _ (all : k ≡ length (joined (want_stops starts lengths aggregates ns cs))) (f₀ l₀ s₀ r₀ f l s r : List ℕ) (at i : ℕ)
       (p : Filling starts lengths aggregates ns cs k f₀ l₀ s₀ r₀ f l s r at i) where
-    -- All wants are in: the first stop stands at the first entry.
-    pub filled_rows : i ≤ 0
-        → (f ≡ row_with (λ x. x.file) (joined (want_stops starts lengths aggregates ns cs)) f₀)
-        × (l ≡ row_with (λ x. x.start) (joined (want_stops starts lengths aggregates ns cs)) l₀)
-        × (s ≡ row_with length_of (joined (want_stops starts lengths aggregates ns cs)) s₀)
-        × (r ≡ row_with (λ x. x.count) (joined (want_stops starts lengths aggregates ns cs)) r₀)
-    filled_rows h =
-        let z : i ≡ 0 = omega arith in
-        let whole : joined (drop i (want_stops starts lengths aggregates ns cs)) ≡ joined (want_stops starts lengths aggregates ns cs) = ap (λ n. joined (drop n (want_stops starts lengths aggregates ns cs))) z ∙ ap joined (all_left (want_stops starts lengths aggregates ns cs)) in
-        let none : at ≡ 0 = omega (arith, all, p.place, ap length whole) in (
-          filled_all (λ x. x.file) (joined (want_stops starts lengths aggregates ns cs)) f₀ f at (rw (whole, all) at p.firsts) none,
-          filled_all (λ x. x.start) (joined (want_stops starts lengths aggregates ns cs)) l₀ l at (rw (whole, all) at p.lefts) none,
-          filled_all length_of (joined (want_stops starts lengths aggregates ns cs)) s₀ s at (rw (whole, all) at p.spans) none,
-          filled_all (λ x. x.count) (joined (want_stops starts lengths aggregates ns cs)) r₀ r at (rw (whole, all) at p.reads) none,
-        )
-
     -- One want more, at index m.
     module _ (m : ℕ) (one : suc m ≡ i) (same : Bool) (same-is : same ≡ joins_next aggregates ns m) where
       want : Stop

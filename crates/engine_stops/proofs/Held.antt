@@ -9,13 +9,16 @@ use lib.ListN.{length, take, drop, length-map, length-append, length-replicate}
 use lib.Seq.{take_at}
 use borrow.Author.Tests.{le-ltb}
 use Rattle.refusals.specs.declared.Refusal.TheVariants.{ShortRow}
+use Rattle.refusals.specs.declared.Verdict.{Verdict}
+use Rattle.std.specs.Prelude.{Ok, Err}
 use Rattle.refusals.specs.Refusals.{accepted, refuse_if, first_of}
+use Rattle.refusals.proofs.Checked.{Refuses}
 use Rattle.refusals.proofs.Verdicts.{refuses, first_refuses, first_passes, none_refuses}
 use Rattle.runs.specs.Run.{Run, Stop, stops_of}
 use Rattle.runs.specs.Judging.{right_end}
 use Rattle.runs.specs.Alone.{zeros}
 use Rattle.runs.specs.Judging.{judge_of, table_checks, wants_checks, head_checks}
-use Rattle.engine_stops.specs.declared.Joined.{Joined}
+use Rattle.engine_stops.proofs.Said.{answer_refuses, answer_accepts}
 use Rattle.engine_stops.specs.Joining.{JoinRows, join_rows, short_join_rows, join_verdict, join_answer, join_rows_of, join_rows_with, row_with, length_of}
 
 judge_accepted : (r : Run) → refuses (judge_of r) ≡ false → judge_of r ≡ accepted
@@ -57,31 +60,39 @@ module _ (r : Run) (n : ℕ) where
             first_passes (judge_of r) (refuse_if (short_join_rows (length (stops_of r)) (fresh_rows n)) ShortRow ∷ []) e
             ∙ ap (λ b. first_of (refuse_if b ShortRow ∷ [])) (none_short (enough e)) ∙ sym (judge_accepted r e)
 
-    module _ (j : Joined) (after : JoinRows) (j-is : j ≡ join_answer r (fresh_rows n)) (after_is : after ≡ join_rows_of r (fresh_rows n)) where
-      pub join_verdict_lem : j.verdict ≡ judge_of r
-      unfolding join_answer
-      join_verdict_lem = ap (λ x. x.verdict) j-is ∙ join_judges
+    -- Where it answers a refusal, that is what the judging refuses; where it answers a number, the judging accepts and so many are the stops.
+    pub join_stopped : (e : Verdict) → Err e ≡ join_answer r (fresh_rows n) → Refuses (judge_of r) e
+    unfolding join_answer
+    join_stopped e said = answer_refuses (judge_of r) (length (stops_of r)) e (rw join_judges at said)
 
-      module _ (accepts : refuses (judge_of r) ≡ false) where
-        pub join_stops : j.stops ≡ length (stops_of r)
-        unfolding join_answer
-        join_stops = rw (join_judges, accepts) at (ap (λ x. x.stops) j-is)
+    pub join_passed : (k : ℕ) → Ok k ≡ join_answer r (fresh_rows n) → refuses (judge_of r) ≡ false
+    unfolding join_answer
+    join_passed k said = (answer_accepts (judge_of r) (length (stops_of r)) k (rw join_judges at said)).passes
 
-        rows_are : after ≡ join_rows_with (stops_of r) (fresh_rows n)
-        unfolding join_rows_of
-        rows_are = rw (join_judges, accepts) at after_is
+    pub join_stops : (k : ℕ) → Ok k ≡ join_answer r (fresh_rows n) → k ≡ length (stops_of r)
+    unfolding join_answer
+    join_stops k said = (answer_accepts (judge_of r) (length (stops_of r)) k (rw join_judges at said)).is
 
-        column : (g : Stop → ℕ) (row row' : List ℕ) → row' ≡ row_with g (stops_of r) row → (j.stops ≤ length row') × (take j.stops row' ≡ map g (stops_of r))
-        column g row row' is = (
-          omega (arith, join_stops, ap length is, length-append (map g (stops_of r)) (drop (length (stops_of r)) row), length-map (stops_of r) g),
-          ap (take j.stops) is ∙ take_at (map g (stops_of r)) (drop (length (stops_of r)) row) j.stops (length-map (stops_of r) g ∙ sym join_stops),
-        )
+    pub join_accepts : refuses (judge_of r) ≡ false → Ok (length (stops_of r)) ≡ join_answer r (fresh_rows n)
+    unfolding join_answer
+    join_accepts e = rw (join_judges, e)
 
-        pub join_front : Front j.stops after (stops_of r)
-        join_front =
-            record {
-              firsts = column (λ s. s.file) (zeros n) after.firsts (ap (λ x. x.firsts) rows_are);
-              lefts = column (λ s. s.start) (zeros n) after.lefts (ap (λ x. x.lefts) rows_are);
-              spans = column length_of (zeros n) after.spans (ap (λ x. x.spans) rows_are);
-              reads = column (λ s. s.count) (zeros n) after.reads (ap (λ x. x.reads) rows_are);
-            }
+    module _ (k : ℕ) (said : Ok k ≡ join_answer r (fresh_rows n)) (after : JoinRows) (after_is : after ≡ join_rows_of r (fresh_rows n)) where
+      rows_are : after ≡ join_rows_with (stops_of r) (fresh_rows n)
+      unfolding join_rows_of
+      rows_are = rw (join_judges, join_passed k said) at after_is
+
+      column : (g : Stop → ℕ) (row row' : List ℕ) → row' ≡ row_with g (stops_of r) row → (k ≤ length row') × (take k row' ≡ map g (stops_of r))
+      column g row row' is = (
+        omega (arith, join_stops k said, ap length is, length-append (map g (stops_of r)) (drop (length (stops_of r)) row), length-map (stops_of r) g),
+        ap (take k) is ∙ take_at (map g (stops_of r)) (drop (length (stops_of r)) row) k (length-map (stops_of r) g ∙ sym (join_stops k said)),
+      )
+
+      pub join_front : Front k after (stops_of r)
+      join_front =
+          record {
+            firsts = column (λ s. s.file) (zeros n) after.firsts (ap (λ x. x.firsts) rows_are);
+            lefts = column (λ s. s.start) (zeros n) after.lefts (ap (λ x. x.lefts) rows_are);
+            spans = column length_of (zeros n) after.spans (ap (λ x. x.spans) rows_are);
+            reads = column (λ s. s.count) (zeros n) after.reads (ap (λ x. x.reads) rows_are);
+          }

@@ -1,7 +1,7 @@
 -- Joining from the right: each want is of the stop at hand or begins one; the rows are filled accordingly, from their last entry to the first.
-use Prim.Native.Nat.{ℕ, zero, suc, ◌+◌, ◌-◌, ◌≤◌, ◌<◌}
+use Prim.Native.Nat.{ℕ, suc, ◌+◌, ◌-◌, ◌≤◌, ◌<◌}
 use mathlib.Core.Path.{◌≡◌, refl, sym, ap, ◌∙◌}
-use mathlib.Core.Bool.{Bool, true, false, cond, ◌&&◌, true≢false}
+use mathlib.Core.Bool.{Bool, true, false, cond, ◌&&◌}
 use mathlib.Core.Logic.{⊎_elim, ◌⊎◌, inl, inr}
 use mathlib.Core.List.{List, [], ◌∷◌, ◌++◌, map}
 use native.Mathlib.Omega.{arith}
@@ -14,9 +14,8 @@ use Rattle.runs.specs.Run.{Stop, stop_of, want_stops, joined, join_to, merged, f
 use Rattle.runs.specs.Lists.{leftmost}
 use Rattle.runs.proofs.Search.{true_or_false}
 use Rattle.runs.proofs.Numbers.{same_number_first, same_first_number}
-use Rattle.runs.proofs.Joined.{join_none, join_same, join_other, leftmost_joined, some_joined, reads_of, reads_joined, reads_fewer, joined_fewer}
+use Rattle.runs.proofs.Joined.{join_none, join_same, join_other, leftmost_joined, some_joined, reads_of, reads_joined, reads_fewer}
 use Rattle.runs.proofs.Stops.{first_file_lem, wants_length, wants_drop, wants_reads}
-use Rattle.engine_stops.specs.Joining.{row_with}
 use Rattle.engine_stops.specs.Private.{WantsFit, joins_next}
 
 -- Whether a want is of the stop of the next one, by the aggregate numbers of their files.
@@ -220,13 +219,6 @@ module _ (g : Stop → ℕ) (same : Bool) (w : Stop) (later here : List Stop) (a
             done = put row to v room ∙ rw (b.is, begins e, next) (ap (λ l. g w ∷ l) p.done);
           }
 
--- Nothing filled yet, and all filled.
+-- Nothing filled yet.
 pub filled_none : (g : Stop → ℕ) (k : ℕ) (row : List ℕ) → Filled g [] k row row k
 filled_none g k row = record { same = refl; done = refl }
-
-pub filled_all : (g : Stop → ℕ) (stops : List Stop) (row₀ row : List ℕ) (at : ℕ) → Filled g stops (length stops) row₀ row at → at ≡ 0 → row ≡ row_with g stops row₀
-filled_all g stops row₀ row at p e = whole row ∙ ap (λ n. drop n row) (sym e) ∙ p.done
-  where
-    whole : (l : List ℕ) → l ≡ drop 0 l
-    whole [] = refl
-    whole (x ∷ l) = refl

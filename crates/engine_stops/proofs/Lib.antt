@@ -4,5 +4,6 @@ mod Filling
 mod Answers
 pub mod Table
 pub mod Renamed
+pub mod Said
 pub mod Held
 pub mod Halves

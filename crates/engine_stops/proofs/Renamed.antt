@@ -1,20 +1,20 @@
 -- Lists of the joined table and lists by first files: the same rules hold of both, and each list of the one kind is one of the other.
 use Prim.Native.Nat.{ℕ, zero, suc, ◌+◌, ◌-◌, ◌≤◌, ◌<◌}
 use mathlib.Core.Path.{◌≡◌, refl, sym, ap, ◌∙◌}
-use mathlib.Core.Bool.{Bool, true, false, not, cond, ◌||◌, true≢false, or-true}
+use mathlib.Core.Bool.{true, false, not, cond, ◌||◌, true≢false, or-true}
 use mathlib.Core.Logic.{⊎_elim}
 use mathlib.Core.List.{List, [], ◌∷◌, map}
 use native.Mathlib.Omega.{arith}
 use native.Mathlib.Nat.{eq-or-lt_of_le}
 use native.Mathlib.Decide.{dec_lt}
-use lib.ListN.{length, get_or, length-map, get_or-map}
+use lib.ListN.{length, length-map}
 use lib.Seq.{ext_get_or}
 use lib.Dec.{ltb, leb, eqb}
-use borrow.Author.Tests.{eqb-true, eqb-false, eq-eqb, ne_eqb, not-false}
+use borrow.Author.Tests.{eqb-true, eq-eqb}
 use Rattle.runs.specs.Run.{Stop}
 use Rattle.runs.specs.Rows.{stop_at}
 use Rattle.runs.specs.Lists.{Detour, wanted, leftmost, bad_alone, bad_after, bad_entry, any_below, entry_of, first_bad_entry, WellFormed}
-use Rattle.runs.proofs.Search.{ltb_same, leb_not_ltb, true_or_false, or_false_both, first_same, first_zero, any_same}
+use Rattle.runs.proofs.Search.{ltb_same, leb_not_ltb, true_or_false, first_same, any_same}
 use Rattle.runs.proofs.Sound.{Sound}
 use Rattle.runs.proofs.Formed.{names_rise, formed_names}
 use Rattle.engine_stops.specs.Private.{renumbered, name_of, entry_named, list_named}

@@ -1,15 +1,15 @@
 -- The joined table of an accepted run is accepted, and its stops are the run's, numbered from 1.
 use Prim.Native.Nat.{ℕ, zero, suc, ◌+◌, ◌-◌, ◌≤◌, ◌<◌}
 use mathlib.Core.Path.{◌≡◌, refl, sym, ap, ◌∙◌}
-use mathlib.Core.Bool.{true, false}
+use mathlib.Core.Bool.{false}
 use mathlib.Core.List.{List, [], ◌∷◌, map}
 use native.Mathlib.Omega.{arith}
 use lib.ListN.{length, get_or, length-map, get_or-map}
 use lib.Seq.{ext_get_or}
 use Rattle.refusals.proofs.Verdicts.{refuses}
-use Rattle.runs.specs.Run.{Run, Stop, stops_of, end_at, total, most_reads, most_files, most_wants, last_place, highest_turn}
+use Rattle.runs.specs.Run.{Run, Stop, stops_of, end_at, total, most_reads, most_wants, last_place}
 use Rattle.runs.specs.Judging.{right_end}
-use Rattle.runs.specs.Alone.{alone_of, lone_stop, lone_stops}
+use Rattle.runs.specs.Alone.{lone_stop, lone_stops}
 use Rattle.runs.specs.Rows.{stop_at}
 use Rattle.runs.specs.Judging.{judge_of, bad_place, end_before, number_before}
 use Rattle.runs.specs.Private.{SoundTable}
@@ -17,11 +17,11 @@ use Rattle.runs.proofs.Search.{first_all}
 use Rattle.runs.proofs.Accepted.{GoodFile, file_good, GoodWant}
 use Rattle.runs.proofs.Sound.{Sound}
 use Rattle.runs.proofs.Joined.{reads_of}
-use Rattle.runs.proofs.Judged.{GoodWants, GoodHead, GoodRun, accepted_run}
+use Rattle.runs.proofs.Judged.{GoodWants, GoodRun, accepted_run}
 use Rattle.runs.proofs.Stops.{run_sound, stops_few, stops_reads}
 use Rattle.runs.proofs.Alone.{alone_stops, alone_accepted, plain_length, plain_at}
 use Rattle.engine_stops.specs.Joining.{length_of}
-use Rattle.engine_stops.specs.Private.{count_up, table_of, joined_table, renumbered}
+use Rattle.engine_stops.specs.Private.{count_up, joined_table, renumbered}
 
 pub count_length : (n k : ℕ) → length (count_up n k) ≡ k
 unfolding count_up

@@ -1,5 +1,5 @@
 -- What joining answers, for every input: the first refusal that applies and nothing changed, or the number of stops, and each row afterwards.
-use Rattle.std.specs.Prelude.{ℕ, ◌-◌, Bool, cond, ◌||◌, List, [], ◌∷◌, ◌++◌, map, length, drop, ltb}
+use Rattle.std.specs.Prelude.{ℕ, ◌-◌, Result, Ok, Err, Bool, cond, ◌||◌, List, [], ◌∷◌, ◌++◌, map, length, drop, ltb}
 use denote.Triple.Both.{Both}
 use Rattle.refusals.specs.declared.Refusal.TheVariants.{ShortRow}
 use Rattle.refusals.specs.declared.Verdict.{Verdict}
@@ -7,7 +7,6 @@ use Rattle.refusals.specs.Refusals.{is_refusal, refuse_if, first_of}
 use Rattle.runs.specs.Run.{Run, Stop, stops_of}
 use Rattle.runs.specs.Rows.{MutRow}
 use Rattle.runs.specs.Judging.{judge_of}
-use Rattle.engine_stops.specs.declared.Joined.{Joined}
 
 -- The lent rows: for first files, starts, lengths and reads.
 pub record JoinRows : Type 0 where
@@ -38,10 +37,11 @@ short_join_rows k rows =
 unfoldable pub join_verdict : Run → JoinRows → Verdict
 join_verdict r rows = first_of (judge_of r ∷ refuse_if (short_join_rows (length (stops_of r)) rows) ShortRow ∷ [])
 
-unfoldable pub join_answer : Run → JoinRows → Joined
+-- The verdict that refuses, or the number of stops.
+unfoldable pub join_answer : Run → JoinRows → Result ℕ Verdict
 join_answer r rows =
     let v : Verdict = join_verdict r rows in
-    record { verdict = v; stops = cond (is_refusal v.refusal) 0 (length (stops_of r)) }
+    cond (is_refusal v.refusal) (Err v) (Ok (length (stops_of r)))
 
 -- A row with one entry for each stop, then the later entries as they were.
 abbrev pub row_with : (Stop → ℕ) → List Stop → List ℕ → List ℕ

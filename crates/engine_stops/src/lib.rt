@@ -2,22 +2,15 @@
 // Joining answers every input; all is judged before the first write.
 #![tactic(auto)]
 
-ghost use Rattle.std.specs.Prelude.{◌≡◌, false, ◌||◌, cond, List, ℕ, ◌+◌, ◌-◌, ◌≤◌, ◌<◌, length, ltb};
+ghost use Rattle.std.specs.Prelude.{◌≡◌, List, ℕ, ◌≤◌, ◌<◌, length};
 ghost use Rattle.runs.specs.Run.{joined, want_stops};
 ghost use Rattle.runs.specs.Rows.{run_at};
 ghost use Rattle.runs.specs.Private.{SoundTable, InTable, want_stops_at};
 ghost use Rattle.engine_stops.specs.Joining.{join_answer, join_rows_of, join_rows_before, join_rows_after, row_with, length_of};
 ghost use Rattle.engine_stops.specs.Private.{WantsFit, JoinFits, place_of, joins_next, short_stop_rows};
 
-use refusals::{Refusal, Verdict, refuse_if, refused};
+use refusals::{Refusal, Verdict};
 use runs::{first_member, judge, last_member};
-
-// What joining answers: the first refusal that applies, or acceptance and the number of stops.
-#[derive(Clone, Copy)]
-pub struct Joined {
-    pub verdict: Verdict,
-    pub stops: usize,
-}
 
 // Where a stop lies: its first file, its start and its length.
 #[derive(Clone, Copy)]
@@ -61,27 +54,16 @@ fn joins_next(aggregates: &[u64], numbers: &[u64], i: usize) -> bool
     aggregates[(numbers[i + 1] - 1) as usize] == number
 }
 
-// One more, or as many.
-fn more_unless(count: usize, same: bool) -> usize
-    requires { count < 64 }
-    ensures { result ≡ cond same count (count + 1) }
-{
-    if same {
-        return count;
-    }
-    count + 1
-}
-
 // How many stops the wants make.
 fn count_stops(aggregates: &[u64], numbers: &[u64]) -> usize
     requires { WantsFit aggregates.now numbers.now }
     ensures { (s l cs : List ℕ) → length cs ≡ length numbers.now → result ≡ length (joined (want_stops s l aggregates.now numbers.now cs)) }
 {
-    let mut count: usize = 0;
-    let mut i: usize = numbers.len();
-    while 0 < i {
-        i -= 1;
-        count = more_unless(count, joins_next(aggregates, numbers, i));
+    let mut count = 0;
+    for i in (0..numbers.len()).rev() {
+        if !joins_next(aggregates, numbers, i) {
+            count += 1;
+        }
     }
     count
 }
@@ -90,37 +72,7 @@ fn count_stops(aggregates: &[u64], numbers: &[u64]) -> usize
 fn short_rows(stops: usize, firsts: usize, lefts: usize, spans: usize, reads: usize) -> bool
     ensures { result ≡ short_stop_rows stops firsts lefts spans reads }
 {
-    if firsts < stops {
-        return true;
-    }
-    if lefts < stops {
-        return true;
-    }
-    if spans < stops {
-        return true;
-    }
-    reads < stops
-}
-
-// The index before, or the same.
-fn less_unless(at: usize, same: bool) -> usize
-    requires { same ≡ false → 0 < at }
-    ensures { result ≡ cond same at (at - 1) }
-{
-    if same {
-        return at;
-    }
-    at - 1
-}
-
-// The reads of a stop so far, or none.
-fn carried(reads: u64, same: bool) -> u64
-    ensures { result ≡ cond same reads 0 }
-{
-    if same {
-        return reads;
-    }
-    0
+    firsts < stops || lefts < stops || spans < stops || reads < stops
 }
 
 // The stops into the first entries of four rows, from the right: a want of the stop at hand adds its reads to it.
@@ -146,21 +98,23 @@ fn fill(
     ensures spans_after { spans.new ≡ row_with length_of (joined (want_stops_at starts lengths aggregates numbers counts)) spans.old }
     ensures reads_after { reads.new ≡ row_with (λ s. s.count) (joined (want_stops_at starts lengths aggregates numbers counts)) reads.old }
 {
-    let mut at: usize = stops;
-    let mut i: usize = numbers.len();
-    while 0 < i {
-        i -= 1;
-        let same = joins_next(aggregates, numbers, i);
+    let mut at = stops;
+    for i in (0..numbers.len()).rev() {
         let place = stop_place(starts, lengths, aggregates, numbers[i]);
-        at = less_unless(at, same);
+        let mut carried = 0;
+        if joins_next(aggregates, numbers, i) {
+            carried = reads[at];
+        } else {
+            at -= 1;
+        }
         firsts[at] = place.first;
         lefts[at] = place.start;
         spans[at] = place.length;
-        reads[at] = counts[i] + carried(reads[at], same);
+        reads[at] = counts[i] + carried;
     }
 }
 
-// The stops of a run in the first entries of four rows, and their number.
+// The stops of a run in the first entries of four rows: their number, or the first refusal that applies.
 pub fn join(
     starts: &[u64],
     lengths: &[u64],
@@ -173,33 +127,15 @@ pub fn join(
     lefts: &mut [u64],
     spans: &mut [u64],
     reads: &mut [u64],
-) -> Joined
+) -> Result<usize, Verdict>
     ensures value { result ≡ join_answer (run_at starts lengths aggregates numbers counts head turn) (join_rows_before firsts lefts spans reads) }
     ensures reads_value { join_rows_after firsts lefts spans reads ≡ join_rows_of (run_at starts lengths aggregates numbers counts head turn) (join_rows_before firsts lefts spans reads) }
 {
-    let run = judge(starts, lengths, aggregates, numbers, counts, head, turn);
-    if refused(run) {
-        return Joined {
-            verdict: run,
-            stops: 0,
-        };
-    }
+    judge(starts, lengths, aggregates, numbers, counts, head, turn)?;
     let stops = count_stops(aggregates, numbers);
-    let rows = refuse_if(
-        short_rows(stops, firsts.len(), lefts.len(), spans.len(), reads.len()),
-        Refusal::ShortRow,
-    );
-    if refused(rows) {
-        return Joined {
-            verdict: rows,
-            stops: 0,
-        };
-    }
+    Refusal::ShortRow.when(short_rows(stops, firsts.len(), lefts.len(), spans.len(), reads.len()))?;
     fill(
         starts, lengths, aggregates, numbers, counts, stops, firsts, lefts, spans, reads,
     );
-    Joined {
-        verdict: rows,
-        stops,
-    }
+    Ok(stops)
 }

@@ -114,9 +114,6 @@ module _ (starts lengths numbers counts : List ℕ) (turn reads : ℕ) (room : L
   start_loop w e h = record { from = omega (arith, q.window); up_to = omega arith; left = e; some = h; most = omega (arith, chosen_within h) }
 
   module _ (c w : ℕ) (l : StartLoop starts lengths numbers counts turn a b s c w) where
-    pub detour_asked : DetourFrom counts a b c w
-    detour_asked = record { after = l.from; up_to = l.up_to; left = l.left }
-
     counts_back : reads_in counts c ≡ reads_in counts (c - 1) + get_or counts (c - 1) 0
     counts_back = let e : c - 1 + 1 ≡ c = omega (arith, l.from) in rw e at (reads_more counts (c - 1))
 

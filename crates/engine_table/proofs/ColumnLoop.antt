@@ -12,7 +12,7 @@ use Rattle.runs.specs.Run.{Stop}
 use Rattle.runs.specs.Alone.{lone_stops}
 use Rattle.least.proofs.Value.{value_none}
 use Rattle.least.specs.Recurrence.{left_at, right_at, count_at}
-use Rattle.engine_table.specs.Private.{Judged, Written, RowTask, ColumnTask, DoneUpTo, Filled, CellsHold, Columns, Done, Beyond, row_at, table_size, reads_in, reads_first, worth}
+use Rattle.engine_table.specs.Private.{Judged, Written, ColumnTask, DoneUpTo, CellsHold, Columns, Done, Beyond, row_at, table_size, reads_in, reads_first, worth}
 use Rattle.engine_table.proofs.Sizes.{reads_none, reads_more}
 use Rattle.engine_table.proofs.Facts.{reads_at, reads_up_to_lem}
 use Rattle.engine_table.proofs.Cells.{row_inside, row_kept, holds_kept, beyond_kept, beyond_on, beyond_none}
@@ -84,9 +84,6 @@ module _ (starts lengths numbers counts : List ℕ) (turn reads b n : ℕ) where
       }
 
   module _ (xs ys : List ℕ) (a : ℕ) (l : ColumnLoop xs ys a) where
-    pub row_task_lem : a ≤ b → RowTask starts lengths numbers counts turn reads ys a b n
-    row_task_lem h = record { judged = l.judged; window = h; inside = l.inside; big = l.big; columns = l.columns; span = omega (arith, l.span) }
-
     span_reads : (s : ℕ) → s + reads_first (lone_stops starts lengths numbers counts) (suc (b + 1)) ≤ reads → s < n
     span_reads s h =
         let e : suc (b + 1) ≡ b + 2 = omega arith in
@@ -204,16 +201,8 @@ module _ (starts lengths numbers counts : List ℕ) (turn reads : ℕ) where
           reads_left = rw e (more_left h);
         }
 
-    -- The last column is filled.
-    pub table_filled : length numbers ≤ b + 1 → Filled starts lengths numbers counts turn reads ys
-    table_filled h =
-        record { judged = l.judged; big = l.big; holds = λ a' b' m m' m''. l.filled.done a' b' (omega arith) (omega arith) m'' }
-
   pub table_beyond : (room xs ys : List ℕ) (b left : ℕ) → 0 < length numbers → Written 0 (reads + 1) (λ s. 0) room xs → TableLoop xs ys b left → Beyond (table_size (length numbers) reads) room ys
   table_beyond room xs ys b left some w l =
       beyond_on (table_size (length numbers) reads) room xs ys
       (beyond_kept (table_size (length numbers) reads) 0 (reads + 1) room xs (omega (arith, row_inside (length numbers) reads 0 0 0 (reads + 1) some some (omega arith))) w.kept)
       l.filled.beyond
-
-pub first_row_fits : (k reads size : ℕ) → 0 < k → table_size k reads ≤ size → 0 + (reads + 1) ≤ size
-first_row_fits k reads size some big = omega (arith, row_inside k reads 0 0 0 (reads + 1) some some (omega arith))

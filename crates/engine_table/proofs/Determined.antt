@@ -3,16 +3,17 @@ use mathlib.Core.Path.{◌≡◌, refl, sym, ap, ◌∙◌}
 use mathlib.Core.Bool.{Bool, true, false}
 use mathlib.Core.List.{List}
 use lib.ListN.{length}
-use Rattle.refusals.specs.Refusals.{is_refusal, accepted}
+use Rattle.refusals.specs.Refusals.{is_refusal}
 use Rattle.runs.specs.Run.{Run, stops_of}
 use Rattle.runs.specs.Lists.{Detour}
 use Rattle.least.proofs.LeastAny.{least_any_unique}
-use Rattle.engine_table.specs.declared.Listed.{Listed}
+use Rattle.std.specs.Prelude.{ℕ, Result, Ok}
+use Rattle.refusals.specs.declared.Verdict.{Verdict}
 use Rattle.engine_table.specs.Listing.{ListRows, Lists, IsListed, NotListed, listing_verdict, list_rows_with}
 
-module _ (r : Run) (before : ListRows) (a a' : Listed) (after after' : ListRows) where
-  said : List Detour → Listed
-  said l = record { verdict = accepted; detours = length l }
+module _ (r : Run) (before : ListRows) (a a' : Result ℕ Verdict) (after after' : ListRows) where
+  said : List Detour → Result ℕ Verdict
+  said l = Ok (length l)
 
   listed_once : IsListed r before a after → IsListed r before a' after' → (a ≡ a') × (after ≡ after')
   unfolding said

@@ -22,7 +22,7 @@ use Rattle.runs.proofs.Alone.{plain_at, plain_length}
 use Rattle.least.proofs.Sums.{W-zero, W-suc}
 use Rattle.least.specs.Recurrence.{file_at, left_at, right_at, count_at}
 use Rattle.engine_table.specs.Private.{Judged, IsStop, TripFits, EarlyFits, RowFits, row_at, start_at, stop_end, reads_in, reads_first}
-use Rattle.engine_table.proofs.Sizes.{row_small, reads_none, reads_more, reads_within, stop_fits, stop_bytes, stop_next_fits, in_both, stop_before, place_fits, place_bytes, skip_place_fits, skip_place_bytes, within_reads}
+use Rattle.engine_table.proofs.Sizes.{row_small, reads_none, reads_more, reads_within, in_both, stop_before, place_fits, place_bytes, skip_place_fits, skip_place_bytes, within_reads}
 
 module _ (starts lengths numbers counts : List ℕ) (turn reads : ℕ) (j : Judged starts lengths numbers counts turn reads) where
   good : GoodRun (lifted (alone_of j.starts j.lengths numbers counts j.head turn))
@@ -138,16 +138,7 @@ module _ (starts lengths numbers counts : List ℕ) (turn reads : ℕ) (j : Judg
   pub row_part_small : (a b x y : ℕ) → a < length numbers → b < length numbers → x ≡ row_at (length numbers) reads a b → y ≤ most_reads → x + y ≤ 5000000
   row_part_small a b x y h l e m = omega (arith, row_small (length numbers) reads a b (row_fits a b h l))
 
-  -- A stop's number fits, in bytes too, and its count is there.
-  pub number_fits : (i : ℕ) → i < length numbers → Fits w64 i
-  number_fits i l = stop_fits i (length numbers) l few_stops
-
-  pub number_bytes : (i : ℕ) → i < length numbers → Fits w64 (i * 8)
-  number_bytes i l = stop_bytes i (length numbers) l few_stops
-
-  pub number_next_fits : (i : ℕ) → i < length numbers → Fits w64 (i + 1)
-  number_next_fits i l = stop_next_fits i (length numbers) l few_stops
-
+  -- A stop's count is there.
   pub counted : (i : ℕ) → i < length numbers → i < length counts
   counted i l = in_both i (length numbers) (length counts) l even_counts
 

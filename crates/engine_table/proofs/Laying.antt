@@ -8,8 +8,8 @@ use native.Mathlib.Decide.{dec_lt}
 use native.Mathlib.Nat.{mul-le-mul_left, mul-le-mul_right, add-zero}
 use lib.ListN.{get_or}
 use Rattle.least.specs.Slopes.{Supported}
-use Rattle.least.proofs.Lines.{lower_first, supported_line, supported_sum, supported_from, supported_same, supported_rises, never_above_near, never_above_far}
-use Rattle.engine_table.specs.Private.{Written, Apart, LowerFits, WordFits, Edges, Unlowered, Block, Falling, Laid, choice_sum, lowered}
+use Rattle.least.proofs.Lines.{supported_line, supported_sum, supported_from, supported_same, supported_rises, never_above_near, never_above_far}
+use Rattle.engine_table.specs.Private.{Written, Apart, LowerFits, WordFits, Edges, Unlowered, Block, Laid, choice_sum, lowered}
 use Rattle.engine_table.proofs.Words.{kept_more, word_apart}
 
 -- Of two words and more: the first, the last, and the last of a block.
@@ -37,19 +37,6 @@ none_stay cell inner rest base slope n xs = record { within = omega arith; stay 
 module _ (cell inner rest base slope n : ℕ) (xs : List ℕ) (ok : LowerFits cell inner rest base slope n xs) where
   pub word_fits : (s : ℕ) → s < n → WordFits inner rest base slope s xs
   word_fits s l = record { inner_in = omega (arith, ok.inner_in); rest_in = omega (arith, ok.rest_in); fits = ok.fits s l }
-
-  -- Fewer words fit too.
-  pub fewer_fit : (m : ℕ) → m ≤ n → LowerFits cell inner rest base slope m xs
-  fewer_fit m h =
-      record {
-        cell_in = omega (arith, ok.cell_in);
-        inner_in = omega (arith, ok.inner_in);
-        rest_in = omega (arith, ok.rest_in);
-        inner_apart = ⊎_elim (λ a. inl (omega arith)) (λ a. inr (omega arith)) ok.inner_apart;
-        rest_apart = ⊎_elim (λ a. inl (omega arith)) (λ a. inr (omega arith)) ok.rest_apart;
-        wait_fits = omega (arith, ok.wait_fits, mul-le-mul_left slope h);
-        fits = λ s l. ok.fits s (omega arith);
-      }
 
   -- Two words and more are left: the first, the choice's for it, and the row's step to the second.
   module _ (ed : Edges cell inner rest n xs) (two : 2 ≤ n) where
@@ -117,27 +104,6 @@ module _ (cell inner rest base slope n : ℕ) (xs : List ℕ) (ok : LowerFits ce
                   never_above_near row (λ s. base + slope * s + sum s) n step j s ed.row choice_edge step_is (omega (arith, first_row_here, new_sum, h)) (omega (arith, first_row_here, e, k)) two l (omega arith),
                 );
           }
-
-  -- Words that stay, or a block of words lowered.
-  module _ (stay fall : ℕ) (u : Unlowered cell inner rest base slope n xs stay) (t : Falling stay n fall) (some : 0 < n) (ys : List ℕ) (w : Written cell fall (lowered cell inner rest base slope xs) xs ys) where
-    stay_laid : 0 < stay → Laid cell inner rest base slope n xs ys stay
-    stay_laid h =
-        record {
-          within = u.within;
-          some = h;
-          written =
-              record {
-                kept = kept_more cell fall stay xs ys (omega (arith, t.none h)) w.kept;
-                words = λ s l. w.kept.above (cell + s) (omega (arith, t.none h)) ∙ sym (lower_first (get_or xs (cell + s) 0) (choice_sum inner rest base slope xs s) (u.stay s l));
-              };
-        }
-
-    pub next_laid : Laid cell inner rest base slope n xs ys (stay + fall)
-    next_laid =
-        by_cases
-        (dec_lt 0 stay)
-        (λ h. let e : stay + fall ≡ stay = omega (arith, t.none h) in rw e (stay_laid h))
-        (λ h. let e : stay + fall ≡ fall = omega arith in rw e (record { within = t.within; some = t.some (omega arith) some; written = w }))
 
 -- The blocks so far are laid, i words, and m are left.
 module _ (cell inner rest base slope i m : ℕ) (xs ys : List ℕ) (ok : LowerFits cell inner rest base slope (i + m) xs) (w : Written cell i (lowered cell inner rest base slope xs) xs ys) where

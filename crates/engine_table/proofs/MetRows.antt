@@ -1,10 +1,11 @@
 -- Rows of files as a head meets them: they are filled entry by entry, and their stops are the run's stops as the head meets them.
-use Prim.Native.Nat.{ℕ, suc, ◌+◌, ◌-◌, ◌≤◌, ◌<◌}
+use Prim.Native.Nat.{ℕ, suc, ◌+◌, ◌-◌, ◌≤◌, ◌<◌, min}
 use mathlib.Core.Path.{◌≡◌, refl, sym, ◌∙◌}
 use mathlib.Core.Logic.{by_cases}
 use mathlib.Core.List.{List, [], ◌∷◌}
 use native.Mathlib.Omega.{arith}
 use native.Mathlib.Decide.{dec_lt}
+use Rattle.std.proofs.lemmas.Bool.Decides.{nat_tests}
 use lib.ListN.{length, get_or, take, set, length-set}
 use lib.Seq.{length-take-le, get_or-take, get_or-set_same, get_or-set_other}
 use Rattle.runs.specs.Run.{end_at, last_place}
@@ -15,8 +16,9 @@ use Rattle.runs.proofs.Judged.{GoodRun}
 use Rattle.runs.proofs.Table.{table_file}
 use Rattle.engine_table.specs.Private.{AnyRun, FirstHold, met_start, met_length, Met, Judged}
 
-pub first_none : (f : ℕ → ℕ) (row : List ℕ) → FirstHold 0 f row
-first_none f row = record { long = omega arith; each = λ i l. absurd (omega arith) }
+-- The smaller of two numbers, as std has it.
+pub smaller_by_min : (x y : ℕ) → min x y ≡ smaller x y
+smaller_by_min x y = grind (arith, nat_tests)
 
 pub first_more : (i : ℕ) (f : ℕ → ℕ) (row : List ℕ) → FirstHold i f row → i < length row → (v : ℕ) → v ≡ f i → FirstHold (i + 1) f (set row i v)
 first_more i f row h l v e =
@@ -28,12 +30,6 @@ first_more i f row h l v e =
           (λ m. get_or-set_other row i j v 0 (omega arith) ∙ h.each j m)
           (λ m. let q : j ≡ i = omega arith in rw q (get_or-set_same row i v 0 l ∙ e));
     }
-
-pub first_all : (i n : ℕ) (f : ℕ → ℕ) (row : List ℕ) → FirstHold i f row → n ≤ i → FirstHold n f row
-first_all i n f row h l = record { long = omega (arith, h.long); each = λ j k. h.each j (omega arith) }
-
-pub no_larger : (x y r : ℕ) → r ≡ smaller x y → r ≤ x
-no_larger x y r e = omega (arith, (smaller_is x y).first)
 
 module _ (head : ℕ) (starts lengths lefts spans : List ℕ) where
   met_rows : FirstHold (length starts) (met_start head starts) lefts → FirstHold (length starts) (met_length head starts lengths) spans

@@ -8,8 +8,8 @@ use native.Mathlib.Omega.{arith}
 use native.Mathlib.Decide.{dec_lt}
 use lib.ListN.{length, get_or, take, drop, replicate, length-append, length-replicate, length-drop, get_or-replicate, get_or-append, take-append-drop}
 use lib.Seq.{ext_get_or, get_or-append-add, get_or-drop, length-take-le}
-use Rattle.refusals.specs.declared.Verdict.{Verdict}
-use Rattle.refusals.specs.Refusals.{is_refusal, accepted}
+use Rattle.std.specs.Prelude.{Ok}
+use Rattle.refusals.specs.Refusals.{is_refusal}
 use Rattle.runs.specs.Run.{Run, Stop, stops_of, total, most_reads}
 use Rattle.runs.specs.Alone.{lone_stops}
 use Rattle.runs.specs.AnyHead.{pulled, judge_any_of, lifted_head, lifted}
@@ -111,15 +111,15 @@ room_after size xs ys zs h b w = ext_get_or 0 zs (replicate size 0 ++ drop size 
 
 -- The list is written and the room is zeroed.
 module _ (r : Run) (reads : ℕ) (froms tos room : List ℕ) (accepts : is_refusal (judge_any_of r).refusal ≡ false) (whole : reads ≡ total r.counts) where
-  pub listed_so : (u : Verdict) (n : ℕ) (froms' tos' room₁ room' : List ℕ) → u ≡ accepted → table_size (length r.numbers) reads ≤ length room
+  pub listed_so : (n : ℕ) (froms' tos' room₁ room' : List ℕ) → table_size (length r.numbers) reads ≤ length room
       → ListWritten (least_list r.turn (pulled r.head (stops_of r))) n froms tos froms' tos'
       → Beyond (table_size (length r.numbers) reads) room room₁ → Written 0 (table_size (length r.numbers) reads) (λ s. 0) room₁ room'
-      → IsListed r (list_rows froms tos room) (record { verdict = u; detours = n }) (list_rows froms' tos' room')
-  listed_so u n froms' tos' room₁ room' ok big w b z =
+      → IsListed r (list_rows froms tos room) (Ok n) (list_rows froms' tos' room')
+  listed_so n froms' tos' room₁ room' big w b z =
       record {
         list = list;
         least = least_any r.turn r.head (lifted_head r.head) (stops_of r) (run_sound (lifted r) (accepted_any r accepts).run);
-        says = rw (ok, list_long list n froms tos froms' tos' w);
+        says = ap Ok (sym (list_long list n froms tos froms' tos' w));
         rows = rows_are (froms_after list n froms tos froms' tos' w) (tos_after list n froms tos froms' tos' w) room_is;
       }
     where

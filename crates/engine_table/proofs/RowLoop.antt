@@ -14,7 +14,7 @@ use Rattle.least.proofs.Lines.{lower_below_first, supported_lower, supported_sam
 use Rattle.least.proofs.Edges.{candidate_supported}
 use Rattle.least.specs.Slopes.{Supported}
 use Rattle.least.specs.Recurrence.{lower, lowest, left_at, right_at, count_at}
-use Rattle.engine_table.specs.Private.{Kept, Written, SkipFits, RowTask, DetourFrom, SoFar, row_at, reads_in, start_at, worth, choice_worth}
+use Rattle.engine_table.specs.Private.{Kept, Written, SkipFits, RowTask, SoFar, row_at, reads_in, start_at, worth, choice_worth}
 use Rattle.engine_table.proofs.Sizes.{reads_more}
 use Rattle.engine_table.proofs.Words.{kept_none, kept_more, kept_on}
 use Rattle.engine_table.proofs.Facts.{cheap_turn}
@@ -71,9 +71,6 @@ module _ (starts lengths numbers counts : List ℕ) (turn reads : ℕ) (a b n : 
       }
 
   module _ (xs ys : List ℕ) (c w : ℕ) (r : RowLoop xs ys c w) where
-    pub detour_next : a < c → DetourFrom counts a b c w
-    detour_next h = record { after = h; up_to = r.up_to; left = r.left }
-
     counts_back : 0 < c → reads_in counts c ≡ reads_in counts (c - 1) + get_or counts (c - 1) 0
     counts_back h = let e : c - 1 + 1 ≡ c = omega arith in rw e at (reads_more counts (c - 1))
 

@@ -1,7 +1,7 @@
 -- Products and sums that must fit a word.
 use Prim.Native.Nat.{ℕ, zero, suc, ◌+◌, ◌-◌, ◌*◌, ◌≤◌, ◌<◌, ◌^◌}
 use native.Mathlib.Omega.{arith}
-use native.Mathlib.Nat.{mul-le-mul, mul-le-mul_left}
+use native.Mathlib.Nat.{mul-le-mul}
 use native.Mathlib.Numerals.{add-one}
 use mathlib.Core.Path.{◌≡◌, refl, ap, ◌∙◌}
 use mathlib.Core.List.{List, [], ◌∷◌}
@@ -67,22 +67,9 @@ pub reads_rise : (counts : List ℕ) (i j : ℕ) → i ≤ j → reads_in counts
 unfolding reads_in
 reads_rise counts i j h = W-rises (λ n. get_or counts n 0) i j h
 
--- A waiting sum that grows by the slope with each word.
-pub wait_first : (base slope : ℕ) → base ≡ base + slope * 0
-wait_first base slope = omega arith
-
-pub wait_next : (base slope n s : ℕ) → base + slope * n < 2 ^ 64 → s < n → base + slope * s + slope < 2 ^ 64
-wait_next base slope n s h l = omega (arith, mul-le-mul_left slope l)
-
 -- A number below a count of at most 64 stops fits, and so does its place in bytes.
 pub stop_fits : (n k : ℕ) → n < k → k ≤ 64 → Fits w64 n
 stop_fits n k h few = omega arith
-
-pub stop_bytes : (n k : ℕ) → n < k → k ≤ 64 → Fits w64 (n * 8)
-stop_bytes n k h few = omega arith
-
-pub stop_next_fits : (n k : ℕ) → n < k → k ≤ 64 → Fits w64 (n + 1)
-stop_next_fits n k h few = omega arith
 
 -- It is below the length of a row of as many.
 pub in_both : (b k m : ℕ) → b < k → k ≡ m → b < m
@@ -101,25 +88,9 @@ left_of_lem a b k h l = omega arith
 pub back_from : (c b k : ℕ) → c ≤ b + 1 → b + 1 < k → c - 1 < k
 back_from c b k h l = omega arith
 
-pub next_within : (a b k : ℕ) → a ≤ b → b + 1 < k → a + 1 < k
-next_within a b k h l = omega arith
-
--- One on from a number below another: up to it, and nearer.
-pub below_next : (a b : ℕ) → a ≤ b → a < b + 1
-below_next a b h = omega arith
-
-pub one_on : (i n : ℕ) → i < n → i + 1 ≤ n
-one_on i n h = omega arith
-
-pub nearer : (i n : ℕ) → i < n → n - (i + 1) < n - i
-nearer i n h = omega arith
-
 -- One back from a number past another.
 pub past_some : (e a : ℕ) → e < a → 1 ≤ a
 past_some e a h = omega arith
-
-pub one_back : (e a : ℕ) → e < a → a - 1 < a
-one_back e a h = omega arith
 
 -- A place of the table past so many reads, and past two such counts, fits; so does it in bytes.
 pub place_fits : (x y : ℕ) → x + y ≤ 5000000 → Fits w64 (x + y)
@@ -136,19 +107,6 @@ skip_place_bytes x y s r m h l few = omega arith
 
 pub within_reads : (s r m : ℕ) → s + r ≤ m → m ≤ most_reads → s ≤ most_reads
 within_reads s r m h few = omega arith
-
--- A number of reads fits, and so does one more.
-pub reads_fit : (n m : ℕ) → n ≤ m → m ≤ most_reads → Fits w64 n
-reads_fit n m h few = omega arith
-
-pub reads_next_fit : (m : ℕ) → m ≤ most_reads → Fits w64 (m + 1)
-reads_next_fit m few = omega arith
-
-pub reads_twice_fit : (m : ℕ) → m ≤ most_reads → Fits w64 (2 * (m + 1))
-reads_twice_fit m few = omega arith
-
-pub reads_rest_fit : (m x : ℕ) → m ≤ most_reads → Fits w64 (m - x + 1)
-reads_rest_fit m x few = omega arith
 
 -- What is part of a sum that fits.
 pub sum_first : (x y : ℕ) → x + y < 2 ^ 64 → x < 2 ^ 64

@@ -1,16 +1,19 @@
 -- Runs of words in the working room: written one after the other, and all others kept.
-use Prim.Native.Nat.{ℕ, ◌+◌, ◌*◌, ◌≤◌, ◌<◌, ◌^◌}
+use Prim.Native.Nat.{ℕ, ◌+◌, ◌*◌, ◌≤◌, ◌<◌, min}
 use mathlib.Core.Path.{◌≡◌, refl, ◌∙◌}
 use mathlib.Core.Logic.{⊎_elim, by_cases}
 use mathlib.Core.List.{List}
 use native.Mathlib.Omega.{arith}
 use native.Mathlib.Decide.{dec_lt}
+use Rattle.std.proofs.lemmas.Bool.Decides.{nat_tests}
 use lib.ListN.{length, get_or, set, length-set}
-use mir.Syntax.{w64}
-use mir.Val.{Fits}
 use lib.Seq.{get_or-set_same, get_or-set_other}
 use Rattle.least.specs.Recurrence.{lower}
-use Rattle.engine_table.specs.Private.{Kept, Written, Apart, SkipFits, LowerFits, lowered}
+use Rattle.engine_table.specs.Private.{Kept, Written, Apart, LowerFits, lowered}
+
+-- The lower of two numbers, as std has it.
+pub lower_by_min : (x y : ℕ) → min x y ≡ lower x y
+lower_by_min x y = grind (arith, nat_tests)
 
 pub kept_none : (at : ℕ) (xs : List ℕ) → Kept at 0 xs xs
 kept_none at xs = record { same = refl; below = λ i h. refl; above = λ i h. refl }
@@ -70,14 +73,6 @@ module _ (cell inner rest base slope n : ℕ) (xs : List ℕ) (ok : LowerFits ce
       written_more cell s (lowered cell inner rest base slope xs) xs ys w (omega (arith, ok.cell_in)) v
       (rw (here, sum_here) at e)
 
-module _ (cell from more n : ℕ) (xs : List ℕ) (ok : SkipFits cell from more n xs)
-    (s : ℕ) (ys : List ℕ) (w : Written cell s (λ i. more + get_or xs (from + i) 0) xs ys) (l : s < n) where
-  pub word_from : get_or ys (from + s) 0 ≡ get_or xs (from + s) 0
-  word_from = word_apart from cell n s xs ys ok.apart l w.kept
-
-  pub row_skipped : Written cell (s + 1) (λ i. more + get_or xs (from + i) 0) xs (set ys (cell + s) (more + get_or ys (from + s) 0))
-  row_skipped = written_more cell s (λ i. more + get_or xs (from + i) 0) xs ys w (omega (arith, ok.cell_in)) (more + get_or ys (from + s) 0) (rw word_from)
-
 -- The loop's last turn is behind it.
 pub written_all : (at n s : ℕ) (f : ℕ → ℕ) (xs ys : List ℕ) → Written at s f xs ys → s ≡ n → Written at n f xs ys
 written_all at n s f xs ys w e = rw e at w
@@ -91,16 +86,3 @@ first_inside p n m h l = omega arith
 
 pub second_inside : (p n m : ℕ) → p + n ≤ m → 2 ≤ n → p + 1 < m
 second_inside p n m h l = omega arith
-
-pub word_inside : (p s n m k : ℕ) → p + n ≤ m → s < n → k ≡ m → p + s < k
-word_inside p s n m k h l e = omega arith
-
--- A place inside the room fits, in bytes too; so does the number of a word of the run, and one more.
-pub place_inside_fits : (i m : ℕ) → i < m → m * 8 < 2 ^ 63 → Fits w64 i
-place_inside_fits i m h small = omega arith
-
-pub place_inside_bytes : (i m : ℕ) → i < m → m * 8 < 2 ^ 63 → Fits w64 (i * 8)
-place_inside_bytes i m h small = omega arith
-
-pub word_next_fits : (p s m : ℕ) → p + s < m → m * 8 < 2 ^ 63 → Fits w64 (s + 1)
-word_next_fits p s m h small = omega arith

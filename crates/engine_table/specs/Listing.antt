@@ -1,16 +1,15 @@
 -- What the table engine answers, for every input: the first refusal that applies and nothing changed, or the least list, and every row afterwards.
 -- Its table is one of stops, so that it has at most 64 files; the head may stand anywhere.
-use Rattle.std.specs.Prelude.{ℕ, ◌+◌, ◌-◌, ◌*◌, ◌≡◌, Bool, true, false, ◌||◌, List, [], ◌∷◌, ◌++◌, map, length, drop, replicate, ltb}
+use Rattle.std.specs.Prelude.{ℕ, Result, Ok, Err, ◌+◌, ◌-◌, ◌*◌, ◌≡◌, Bool, true, false, ◌||◌, List, [], ◌∷◌, ◌++◌, map, length, drop, replicate, ltb}
 use denote.Triple.Both.{Both}
 use Rattle.refusals.specs.declared.Refusal.TheVariants.{FileRows, ShortRow, ShortRoom}
 use Rattle.refusals.specs.declared.Verdict.{Verdict}
-use Rattle.refusals.specs.Refusals.{is_refusal, accepted, refuse_if, first_of}
+use Rattle.refusals.specs.Refusals.{is_refusal, refuse_if, first_of}
 use Rattle.runs.specs.Run.{Run, total, most_wants}
 use Rattle.runs.specs.Rows.{MutRow}
 use Rattle.runs.specs.AnyHead.{judge_any_of}
 use Rattle.runs.specs.Lists.{Detour}
 use Rattle.least.specs.AnyHead.{LeastAny}
-use Rattle.engine_table.specs.declared.Listed.{Listed}
 
 -- The lent rows: for starts and ends, and the working room.
 pub record ListRows : Type 0 where
@@ -56,16 +55,16 @@ list_rows_with r list rows =
     }
 
 -- A refusal changes nothing at all.
-pub record NotListed (v : Verdict) (before : ListRows) (answer : Listed) (after : ListRows) : Type 0 where
-  pub says : answer ≡ record { verdict = v; detours = 0 }
+pub record NotListed (v : Verdict) (before : ListRows) (answer : Result ℕ Verdict) (after : ListRows) : Type 0 where
+  pub says : answer ≡ Err v
   pub kept : after ≡ before
 
-pub record IsListed (r : Run) (before : ListRows) (answer : Listed) (after : ListRows) : Type 0 where
+pub record IsListed (r : Run) (before : ListRows) (answer : Result ℕ Verdict) (after : ListRows) : Type 0 where
   pub list : List Detour
   pub least : LeastAny r list
-  pub says : answer ≡ record { verdict = accepted; detours = length list }
+  pub says : answer ≡ Ok (length list)
   pub rows : after ≡ list_rows_with r list before
 
-pub record Lists (r : Run) (before : ListRows) (answer : Listed) (after : ListRows) : Type 0 where
+pub record Lists (r : Run) (before : ListRows) (answer : Result ℕ Verdict) (after : ListRows) : Type 0 where
   pub refused : is_refusal (listing_verdict r before).refusal ≡ true → NotListed (listing_verdict r before) before answer after
   pub listed : is_refusal (listing_verdict r before).refusal ≡ false → IsListed r before answer after

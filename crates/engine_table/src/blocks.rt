@@ -1,17 +1,10 @@
 // Laying a choice over a row of the table, block by block. A row is the lower edge of lines, as the choice's words are: two comparisons show of
 // all words that are left, or of a block, that the choice lowers none of them.
 ghost use Rattle.std.specs.Prelude.{◌≡◌, ◌<◌};
-ghost use Rattle.least.specs.Recurrence.{lower};
 ghost use Rattle.engine_table.specs.Private.{Written, LowerFits, WordFits, Edges, Unlowered, Block, Falling, Laid, choice_sum, lowered};
 
 // Words that are looked at together.
 const BLOCK: usize = 32;
-
-fn lower_of(x: u64, y: u64) -> u64
-    ensures { result ≡ lower x y }
-{
-    if y < x { y } else { x }
-}
 
 // Each of n words falls to the choice's, where that is lower.
 fn lower_words(
@@ -27,19 +20,17 @@ fn lower_words(
     ensures { Written cell n (lowered cell inner rest base slope room.old) room.old room.new }
 {
     let mut wait = base;
-    let mut s: usize = 0;
-    while s < n {
-        let low = lower_of(room[cell + s], wait + room[inner + s] + room[rest + s]);
-        room[cell + s] = low;
+    for s in 0..n {
+        let choice = wait + room[inner + s] + room[rest + s];
+        room[cell + s] = room[cell + s].min(choice);
         wait += slope;
-        s += 1;
     }
 }
 
 fn block_of(n: usize) -> usize
     ensures { Block n result }
 {
-    if n < BLOCK { n } else { BLOCK }
+    n.min(BLOCK)
 }
 
 // The choice's word for s reads skipped.

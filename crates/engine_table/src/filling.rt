@@ -12,11 +12,7 @@ pub(crate) fn clear(room: &mut [u64], at: usize, n: usize)
     requires { at + n ≤ length room.old }
     ensures { Written at n (λ s. 0) room.old room.new }
 {
-    let mut i: usize = 0;
-    while i < n {
-        room[at + i] = 0;
-        i += 1;
-    }
+    room[at..at + n].fill(0);
 }
 
 // The row of a choice that skips: each word of `from`, and the same on top.
@@ -24,10 +20,8 @@ fn skip_row(room: &mut [u64], cell: usize, from: usize, more: u64, n: usize)
     requires { SkipFits cell from more n room.old }
     ensures { Written cell n (λ s. more + get_or room.old (from + s) 0) room.old room.new }
 {
-    let mut s: usize = 0;
-    while s < n {
+    for s in 0..n {
         room[cell + s] = more + room[from + s];
-        s += 1;
     }
 }
 
@@ -93,14 +87,12 @@ fn fill_row(
         early_of(starts, numbers, counts, a, b + 1),
         n,
     );
-    let mut c = b + 1;
     let mut w = left;
-    while a < c {
+    for c in (a + 1..b + 2).rev() {
         detour_row(
             starts, lengths, numbers, counts, turn, room, reads, a, b, c, w, n,
         );
-        c -= 1;
-        w -= counts[c];
+        w -= counts[c - 1];
     }
 }
 
@@ -122,12 +114,10 @@ fn fill_column(
     ensures { DoneUpTo starts.now lengths.now numbers.now counts.now turn reads room.old room.new (b + 1) }
 {
     clear(room, row(numbers.len(), reads, b + 1, b), 2 * (reads + 1));
-    let mut a: usize = 0;
-    while a <= b {
+    for a in 0..b + 1 {
         fill_row(
             starts, lengths, numbers, counts, turn, room, reads, a, b, left, n,
         );
-        a += 1;
     }
 }
 
@@ -148,14 +138,12 @@ pub(crate) fn fill(
     ensures beyond { Beyond (table_size (length numbers.now) reads) room.old room.new }
 {
     clear(room, 0, reads + 1);
-    let mut b: usize = 0;
     let mut left = counts[0];
-    while b + 1 < numbers.len() {
+    for b in 0..numbers.len() - 1 {
         let n = reads - (left + counts[b + 1]) as usize + 1;
         fill_column(
             starts, lengths, numbers, counts, turn, room, reads, b, left, n,
         );
-        b += 1;
-        left += counts[b];
+        left += counts[b + 1];
     }
 }

@@ -10,10 +10,3 @@ mod reading;
 mod stops;
 
 pub use listing::list;
-
-// What is found: a refusal, or acceptance and the number of detours that were written.
-#[derive(Clone, Copy)]
-pub struct Listed {
-    pub verdict: refusals::Verdict,
-    pub detours: u64,
-}

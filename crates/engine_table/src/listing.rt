@@ -1,5 +1,6 @@
 // The list of a run: refusals 1 to 7, 8 and 9, before anything is written; then the least list, and the room zeroed.
 ghost use Rattle.std.specs.Prelude.{◌≡◌, ◌||◌, ◌+◌, ◌-◌, ◌≤◌, ◌<◌, length, ltb};
+ghost use Rattle.refusals.specs.Refusals.{checked};
 ghost use Rattle.least.specs.Recurrence.{least_list};
 ghost use Rattle.runs.specs.Run.{most_reads};
 ghost use Rattle.runs.specs.Alone.{alone_at};
@@ -8,11 +9,10 @@ ghost use Rattle.engine_table.specs.Listing.{Lists, list_rows_before, list_rows_
 ghost use Rattle.engine_table.specs.Private.{judge_table_of, AnyRun, ListWritten, Beyond, table_size, list_rows_verdict};
 ghost use Rattle.runs.specs.Private.{plain_stops_at};
 
-use crate::Listed;
 use crate::filling::{clear, fill};
 use crate::pulling::{pulled_lengths, pulled_starts};
 use crate::reading::read_off;
-use refusals::{Refusal, Verdict, refuse_if, refused};
+use refusals::{Refusal, Verdict};
 
 // 1 to 7, for a table of stops and a head anywhere.
 fn judge_any(
@@ -22,13 +22,10 @@ fn judge_any(
     counts: &[u64],
     head: u64,
     turn: u64,
-) -> Verdict
-    ensures { result ≡ judge_table_of (alone_at starts lengths numbers counts head turn) }
+) -> Result<(), Verdict>
+    ensures { result ≡ checked (judge_table_of (alone_at starts lengths numbers counts head turn)) }
 {
-    let files = refuse_if(runs::MOST_WANTS < starts.len(), Refusal::FileRows);
-    if refused(files) {
-        return files;
-    }
+    Refusal::FileRows.when(runs::MOST_WANTS < starts.len())?;
     runs::judge_alone(
         starts,
         lengths,
@@ -43,13 +40,8 @@ fn judge_any(
 fn short_rows(wants: usize, froms: usize, tos: usize) -> bool
     ensures { result ≡ (ltb froms (wants - 1) || ltb tos (wants - 1)) }
 {
-    if wants == 0 {
-        return false;
-    }
-    if froms < wants - 1 {
-        return true;
-    }
-    tos < wants - 1
+    let entries = wants.saturating_sub(1);
+    froms < entries || tos < entries
 }
 
 // The words of the table.
@@ -62,16 +54,19 @@ fn table_words(wants: usize, reads: usize) -> usize
 }
 
 // 8, then 9.
-fn judge_rows(wants: usize, reads: usize, froms: usize, tos: usize, room: usize) -> Verdict
+fn judge_rows(
+    wants: usize,
+    reads: usize,
+    froms: usize,
+    tos: usize,
+    room: usize,
+) -> Result<(), Verdict>
     requires wants_bound { wants ≤ 64 }
     requires reads_le_most_reads { reads ≤ most_reads }
-    ensures { result ≡ list_rows_verdict wants reads froms tos room }
+    ensures { result ≡ checked (list_rows_verdict wants reads froms tos room) }
 {
-    let rows = refuse_if(short_rows(wants, froms, tos), Refusal::ShortRow);
-    if refused(rows) {
-        return rows;
-    }
-    refuse_if(room < table_words(wants, reads), Refusal::ShortRoom)
+    Refusal::ShortRow.when(short_rows(wants, froms, tos))?;
+    Refusal::ShortRoom.when(room < table_words(wants, reads))
 }
 
 // The least list into the first entries of two rows, by way of the table of the stops as the head meets them.
@@ -122,7 +117,8 @@ fn least_list(
     )
 }
 
-// The least list of a run of files that lie in no aggregate, from a head anywhere, in the first entries of two rows; and the room zeroed.
+// The least list of a run of files that lie in no aggregate, from a head anywhere, in the first entries of two rows, and the room zeroed: the number of
+// its detours, or the first refusal that applies.
 pub fn list(
     starts: &[u64],
     lengths: &[u64],
@@ -133,31 +129,16 @@ pub fn list(
     froms: &mut [u64],
     tos: &mut [u64],
     room: &mut [u64],
-) -> Listed
+) -> Result<usize, Verdict>
     ensures { Lists (alone_at starts lengths numbers counts head turn) (list_rows_before froms tos room) result (list_rows_after froms tos room) }
 {
-    let run = judge_any(starts, lengths, numbers, counts, head, turn);
-    if refused(run) {
-        return Listed {
-            verdict: run,
-            detours: 0,
-        };
-    }
+    judge_any(starts, lengths, numbers, counts, head, turn)?;
     let reads = runs::count_reads(counts) as usize;
     let k = numbers.len();
-    let rows = judge_rows(k, reads, froms.len(), tos.len(), room.len());
-    if refused(rows) {
-        return Listed {
-            verdict: rows,
-            detours: 0,
-        };
-    }
+    judge_rows(k, reads, froms.len(), tos.len(), room.len())?;
     let n = least_list(
         starts, lengths, numbers, counts, head, turn, reads, froms, tos, room,
     );
     clear(room, 0, table_words(k, reads));
-    Listed {
-        verdict: rows,
-        detours: n as u64,
-    }
+    Ok(n)
 }

@@ -3,19 +3,14 @@ ghost use Rattle.std.specs.Prelude.{◌≡◌, ℕ, ◌≤◌, ◌<◌, length};
 ghost use Rattle.runs.specs.Run.{end_at, last_place};
 ghost use Rattle.engine_table.specs.Private.{FirstHold, met_start, met_length};
 
-use runs::smaller;
-
 // Their starts.
 pub(crate) fn pulled_starts(starts: &[u64], head: u64) -> [u64; 64]
     requires { length starts.now ≤ 64 }
     ensures { FirstHold (length starts.now) (met_start head starts.now) result }
 {
     let mut row = [0u64; 64];
-    let mut i: usize = 0;
-    while i < starts.len() {
-        let start = starts[i];
-        row[i] = smaller(start, head);
-        i += 1;
+    for (i, start) in starts.iter().enumerate() {
+        row[i] = (*start).min(head);
     }
     row
 }
@@ -28,11 +23,8 @@ pub(crate) fn pulled_lengths(starts: &[u64], lengths: &[u64], head: u64) -> [u64
     ensures { FirstHold (length starts.now) (met_length head starts.now lengths.now) result }
 {
     let mut row = [0u64; 64];
-    let mut i: usize = 0;
-    while i < starts.len() {
-        let start = starts[i];
-        row[i] = lengths[i] + (start - smaller(start, head));
-        i += 1;
+    for (i, start) in starts.iter().enumerate() {
+        row[i] = lengths[i] + (*start - (*start).min(head));
     }
     row
 }

@@ -52,22 +52,21 @@ fn detour_start(
     requires s_nonzero { 0 < chosen (lone_stops starts.now lengths.now numbers.now counts.now) turn a b s }
     ensures { result ≡ chosen (plain_stops_at starts lengths numbers counts) turn a b s }
 {
-    let mut c = b + 1;
     let mut w = reads_before(counts, b + 1);
-    while a + 1 < c {
+    for c in (a + 2..b + 2).rev() {
         if detour_cost(
             starts, lengths, numbers, counts, turn, room, reads, a, b, s, c, w,
         ) == least
         {
             return c;
         }
-        c -= 1;
-        w -= counts[c];
+        w -= counts[c - 1];
     }
-    c
+    a + 1
 }
 
 // The choice at stop b + 1: 0 where it is skipped, else where its detour starts.
+// Stays: 0 for a skip and no Option, since the choices of the recurrence (`choice`) are numbered so.
 fn choice_of(
     starts: &[u64],
     lengths: &[u64],
@@ -121,6 +120,7 @@ pub(crate) fn read_off(
     let mut a: usize = 0;
     let mut b: usize = numbers.len() - 1;
     let mut s: usize = 0;
+    // Stays: no range is gone over; each turn goes on to the left in its window or back to one that waits, so that `for` has no form for it.
     loop {
         if b <= a {
             if depth == 0 {

@@ -1,27 +1,21 @@
 -- The figures of 01: what each is, and that both sums of each are small.
 use Prim.Native.Nat.{ℕ, zero, suc, ◌+◌, ◌≤◌, ◌<◌, ◌^◌}
 use mathlib.Core.Path.{◌≡◌, refl, sym, ap, ◌∙◌}
-use mathlib.Core.Bool.{Bool, true, false, not, true≢false}
-use mathlib.Core.Logic.{⊎_elim}
+use mathlib.Core.Bool.{false, not}
 use mathlib.Core.List.{List, [], ◌∷◌, ◌++◌}
 use native.Mathlib.Omega.{arith}
 use lib.ListN.{length, get_or, drop}
-use lib.Dec.{ltb, eqb}
+use lib.Dec.{eqb}
 use lib.IntN.{ℤ, pos}
-use borrow.Author.Tests.{eq-eqb, le-ltb, lt-ltb}
-use Rattle.refusals.specs.declared.Refusal.TheVariants.{ShortRow, BadEntry}
-use Rattle.refusals.specs.declared.Verdict.{Verdict}
-use Rattle.refusals.specs.Refusals.{is_refusal, refuse_if, refuse_at, accepted}
+use borrow.Author.Tests.{eq-eqb, le-ltb}
+use Rattle.refusals.specs.declared.Refusal.TheVariants.{BadEntry}
+use Rattle.refusals.specs.Refusals.{refuse_if, refuse_at}
 use Rattle.refusals.proofs.Verdicts.{refuses, all_accept, accepts_at}
 use Rattle.runs.specs.Run.{Run, Stop, stops_of}
-use Rattle.runs.specs.Judging.{judge_of}
 use Rattle.runs.specs.Lists.{Detour, list_of, list_verdict, first_bad_entry, WellFormed}
-use Rattle.runs.proofs.Search.{true_or_false}
 use Rattle.runs.proofs.Entries.{length_list}
 use Rattle.runs.proofs.Judged.{GoodRun, accepted_run}
-use Rattle.walk.specs.declared.Answer.{Answer}
-use Rattle.walk.specs.Price.{refusal_answer, priced_answer, price_verdict, price_answer}
-use Rattle.walk.specs.Rows.{ReadRows}
+use Rattle.walk.specs.Price.{priced_answer}
 use Rattle.walk.proofs.Walks.{GoodList, accepted_list, list_fits_lem}
 use Rattle.walk.proofs.Laws.{sum_below_lem}
 use Rattle.figures.specs.Figures.{without, figure_of, figures_by, figures_of, figures_verdict, figures_answer, figures_row}

@@ -1,21 +1,21 @@
 -- What the pricer for a head anywhere answers with rows of 64 entries, and what the figures answer; and that of a run that 01 accepts they are 01's.
 use Prim.Native.Nat.{ℕ, ◌≤◌, ◌<◌, ◌^◌}
-use mathlib.Core.Path.{◌≡◌, refl, sym, ap, ap₂, ◌∙◌}
+use mathlib.Core.Path.{◌≡◌, refl, sym, ap, ◌∙◌}
 use mathlib.Core.Bool.{true, false, not, true≢false}
 use mathlib.Core.Logic.{⊎_elim}
 use mathlib.Core.List.{List, [], ◌∷◌, ◌++◌}
 use native.Mathlib.Omega.{arith}
 use lib.ListN.{length, get_or, drop}
-use lib.Dec.{ltb, eqb}
+use lib.Dec.{eqb}
 use lib.IntN.{ℤ, pos, ◌-ℤ◌}
 use borrow.Author.Tests.{eq-eqb, le-ltb, lt-ltb}
 use Rattle.refusals.specs.declared.Refusal.TheVariants.{ShortRow, BadEntry}
 use Rattle.refusals.specs.declared.Verdict.{Verdict}
 use Rattle.refusals.specs.Refusals.{is_refusal, refuse_if, refuse_at}
-use Rattle.refusals.proofs.Verdicts.{refuses, first_refuses, all_accept, accepts_at}
+use Rattle.refusals.proofs.Verdicts.{refuses, all_accept, accepts_at}
 use Rattle.runs.specs.Run.{Run, Stop, stops_of}
 use Rattle.runs.specs.Judging.{judge_of}
-use Rattle.runs.specs.Lists.{Detour, list_of, list_verdict}
+use Rattle.runs.specs.Lists.{Detour, list_of}
 use Rattle.runs.specs.AnyHead.{judge_any_of, list_verdict_any, first_bad_entry_any, WellFormedAny, lifted}
 use Rattle.runs.proofs.Search.{true_or_false}
 use Rattle.runs.proofs.Entries.{length_list}
@@ -23,13 +23,13 @@ use Rattle.runs.proofs.Judged.{accepted_run}
 use Rattle.runs.proofs.Stops.{run_sound}
 use Rattle.runs.proofs.AnyHead.{GoodAnyRun, accepted_any, sound_right, list_any_same, judge_any_same}
 use Rattle.walk.specs.declared.Answer.{Answer}
-use Rattle.walk.specs.Price.{refusal_answer, priced_answer}
+use Rattle.walk.specs.Price.{refusal_answer}
 use Rattle.walk.specs.AnyHead.{priced_any_answer, price_any_verdict, price_any_answer}
 use Rattle.walk.specs.Rows.{ReadRows}
 use Rattle.walk.proofs.Walks.{GoodList, list_fits_lem}
 use Rattle.walk.proofs.AnyHead.{any_good, priced_same}
 use Rattle.walk.proofs.Laws.{sum_any_below}
-use Rattle.figures.specs.Figures.{without, figure_of, figures_by, figures_of, figures_verdict, figures_answer, figures_row}
+use Rattle.figures.specs.Figures.{without, figure_of, figures_of, figures_verdict, figures_answer, figures_row}
 use Rattle.figures.specs.AnyHead.{figure_any_of, figures_any_of, figures_any_verdict, figures_any_answer, figures_any_row}
 use Rattle.figures.specs.Private.{PriceableAny}
 use Rattle.figures.proofs.Without.{without_length, without_list, without_formed_any}
@@ -111,6 +111,9 @@ figure_at r list j l = by_entry (figure_any_of r list) (length list) j l
 
 pub figures_length : (r : Run) (list : List Detour) → length (figures_any_of r list) ≡ length list
 figures_length r list = by_length (figure_any_of r list) (length list) 0
+
+pub figures_size : (r : Run) (froms tos : List ℕ) → PriceableAny r froms tos → length (figures_any_of r (list_of froms tos)) ≡ length froms
+figures_size r froms tos p = figures_length r (list_of froms tos) ∙ length_list froms tos (even r froms tos p)
 
 -- The answers, by which check refuses.
 module _ (r : Run) (froms tos : List ℕ) (row : List ℤ) (rows : ReadRows) (long : Long rows) where

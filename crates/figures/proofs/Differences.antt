@@ -1,6 +1,6 @@
 -- The difference of two sums as a signed word: nothing wraps.
-use Prim.Native.Nat.{ℕ, zero, suc, ◌-◌, ◌≤◌, ◌<◌, ◌^◌}
-use mathlib.Core.Path.{◌≡◌, refl, sym, ap, ◌∙◌}
+use Prim.Native.Nat.{ℕ, zero, suc, ◌<◌, ◌^◌}
+use mathlib.Core.Path.{◌≡◌, refl, ◌∙◌}
 use mathlib.Core.List.{List}
 use native.Mathlib.Omega.{arith}
 use native.Mathlib.Decide.{dec_lt}
@@ -13,9 +13,6 @@ use Rattle.runs.specs.Run.{Run}
 use Rattle.runs.specs.Lists.{Detour}
 use Rattle.walk.specs.Price.{priced_answer}
 use Rattle.figures.specs.Figures.{without, figure_of}
-
-pub small_fits : (a : ℕ) → a < 2 ^ 58 → SFits w64 (pos a)
-small_fits a l = record { sfits = omega arith }
 
 difference_fits : (a b : ℕ) → a < 2 ^ 58 → b < 2 ^ 58 → SFits w64 (pos a -ℤ pos b)
 difference_fits a zero l m = record { sfits = omega arith }
@@ -34,22 +31,6 @@ module _ (a b : ℕ) (l : a < 2 ^ 58) (m : b < 2 ^ 58) where
 
   pub difference_is : to_z w64 (of_z w64 (to_z w64 a -ℤ to_z w64 b)) ≡ pos a -ℤ pos b
   difference_is = to_z-of_z w64 (to_z w64 a -ℤ to_z w64 b) word_fits ∙ read_both
-
--- What lies below 0 is the other difference with a minus; what does not is the difference itself.
-pub below_zero : (a b : ℕ) → a < b → pos 0 -ℤ pos (b - a) ≡ pos a -ℤ pos b
-below_zero a zero l = absurd (omega arith)
-below_zero a (suc b) l =
-    let e : suc b - a ≡ suc (b - a) = omega arith in
-    let f : suc b - suc a ≡ b - a = omega arith in
-    let g : suc (b - a) - 1 ≡ b - a = omega arith in
-    rw (e, lt-ltb a (suc b) l, lt-ltb 0 (suc (b - a)) (omega arith), f, g) refl
-
-above_zero : (a b : ℕ) → b ≤ a → pos (a - b) ≡ pos a -ℤ pos b
-above_zero a zero l = ap pos (omega arith)
-above_zero a (suc b) l = rw (le-ltb a (suc b) l) refl
-
-pub above_is : (a b : ℕ) → a < 2 ^ 58 → b ≤ a → to_z w64 (a - b) ≡ pos a -ℤ pos b
-above_is a b l m = to_z_pos w64 (a - b) (omega arith) ∙ above_zero a b m
 
 -- As it is stored.
 pub stored_is : (a b : ℕ) → a < 2 ^ 58 → b < 2 ^ 58 → (n : ℤ) → n ≡ pos a -ℤ pos b → to_z w64 (of_z w64 n) ≡ pos a -ℤ pos b

@@ -1,14 +1,13 @@
 -- A list without one entry: which entries it has, and that it is well formed where the list is.
 use Prim.Native.Nat.{ℕ, zero, suc, ◌+◌, ◌-◌, ◌≤◌, ◌<◌}
-use mathlib.Core.Path.{◌≡◌, refl, sym, ap, ◌∙◌}
+use mathlib.Core.Path.{◌≡◌, refl, ap, ◌∙◌}
 use mathlib.Core.Bool.{Bool, false}
-use mathlib.Core.List.{List, [], ◌∷◌, ◌++◌}
+use mathlib.Core.List.{List, [], ◌∷◌, ◌++◌, append_assoc}
 use native.Mathlib.Omega.{arith}
 use native.Mathlib.Nat.{le_of_suc-le-suc}
 use native.Mathlib.Numerals.{add-one}
 use lib.ListN.{length, get_or, take, drop, length-append}
-use lib.Seq.{take_at}
-use Rattle.refusals.specs.Refusals.{first_where}
+use lib.Seq.{take_at, drop_at, drop-drop, length-take-le}
 use Rattle.runs.specs.Run.{Stop}
 use Rattle.runs.specs.Lists.{Detour, list_of, bad_alone, bad_after, bad_entry, any_below, entry_of, first_bad_entry, WellFormed}
 use Rattle.runs.specs.AnyHead.{past_head, bad_entry_any, first_bad_entry_any, WellFormedAny}
@@ -21,16 +20,6 @@ abbrev pub past : ℕ → ℕ → ℕ
 past zero j = suc j
 past (suc i) zero = zero
 past (suc i) (suc j) = suc (past i j)
-
-pub past_left : (i j : ℕ) → j < i → past i j ≡ j
-past_left zero j l = absurd (omega arith)
-past_left (suc i) zero l = refl
-past_left (suc i) (suc j) l = ap suc (past_left i j (le_of_suc-le-suc l))
-
-pub past_right : (i j : ℕ) → i ≤ j → past i j ≡ suc j
-past_right zero j l = refl
-past_right (suc i) zero l = absurd (omega arith)
-past_right (suc i) (suc j) l = ap suc (past_right i j (le_of_suc-le-suc l))
 
 past_most : (i j : ℕ) → past i j ≤ suc j
 past_most zero j = omega arith
@@ -57,12 +46,19 @@ module _ {A : Type 0} where
   without_length zero (x ∷ l) h = refl
   without_length (suc i) (x ∷ l) h = ap suc (without_length i l (le_of_suc-le-suc h))
 
--- What the code finds at an index: the row's entry there, or the next one from the entry left out on.
-pub entry_before : (row : List ℕ) (i j : ℕ) → j < i → get_or row j 0 ≡ get_or (without i row) j 0
-entry_before row i j l = sym (without_at 0 i row j ∙ ap (λ n. get_or row n 0) (past_left i j l))
+-- The entries before it and those behind it, as the code copies them to the front of another row.
+without_parts : (i : ℕ) (row : List ℕ) → i < length row → without i row ≡ take i row ++ drop (suc i) row
+unfolding without
+without_parts i [] l = absurd (omega arith)
+without_parts zero (x ∷ row) l = refl
+without_parts (suc i) (x ∷ row) l = ap (λ r. x ∷ r) (without_parts i row (le_of_suc-le-suc l))
 
-pub entry_behind : (row : List ℕ) (i j : ℕ) → i ≤ j → get_or row (j + 1) 0 ≡ get_or (without i row) j 0
-entry_behind row i j l = sym (without_at 0 i row j ∙ ap (λ n. get_or row n 0) (past_right i j l ∙ sym (add-one j)))
+pub copied_without : (row out before behind : List ℕ) (i : ℕ) → i < length row → length row ≤ length out → before ≡ take i row → behind ≡ drop (i + 1) row
+    → take i (before ++ drop i out) ++ (behind ++ drop (length row - 1 - i) (drop i (before ++ drop i out))) ≡ without i row ++ drop (length row - 1) out
+copied_without row out before behind i l fits before-is behind-is =
+    let size : length before ≡ i = rw before-is (length-take-le i row (omega arith)) in
+    let rest : i + (length row - 1 - i) ≡ length row - 1 = omega arith in
+    rw (take_at before (drop i out) i size, drop_at before (drop i out) i size, before-is, behind-is, add-one, without_parts i row l, drop-drop, rest, append_assoc) refl
 
 -- In the first entries of another row.
 pub front_long : (row out₀ out : List ℕ) (i n : ℕ) → i < length row → n + 1 ≡ length row → out ≡ without i row ++ drop (length row - 1) out₀ → n ≤ length out

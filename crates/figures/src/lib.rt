@@ -3,7 +3,7 @@
 // a run whose head 01 accepts.
 #![tactic(auto)]
 
-ghost use Rattle.std.specs.Prelude.{◌≡◌, ◌++◌, ◌+◌, ◌-◌, ◌≤◌, ◌<◌, ◌^◌, length, get_or, drop, pos, ◌-ℤ◌};
+ghost use Rattle.std.specs.Prelude.{◌≡◌, ◌++◌, ◌+◌, ◌-◌, ◌≤◌, ◌<◌, ◌^◌, length, drop, pos, ◌-ℤ◌};
 ghost use Rattle.runs.specs.Rows.{run_in, run_at};
 ghost use Rattle.runs.specs.Lists.{list_of};
 ghost use Rattle.walk.specs.AnyHead.{priced_any_answer};
@@ -14,17 +14,6 @@ ghost use Rattle.figures.specs.Private.{PriceableAny};
 use refusals::{Refusal, Verdict, refused};
 use walk::{Answer, price_any};
 
-// The entry at an index of a row without one entry.
-fn entry_without(row: &[u64], i: usize, j: usize) -> u64
-    requires { j + 1 < length row.now }
-    ensures { result ≡ get_or (without i row.now) j 0 }
-{
-    if j < i {
-        return row[j];
-    }
-    row[j + 1]
-}
-
 // A row without one entry, in the first entries of another.
 fn leave_out(row: &[u64], i: usize, out: &mut [u64])
     requires i_in_bounds { i < length row.now }
@@ -32,11 +21,8 @@ fn leave_out(row: &[u64], i: usize, out: &mut [u64])
     ensures { out.new ≡ without i row.now ++ drop (length row.now - 1) out.old }
 {
     let last = row.len() - 1;
-    let mut j: usize = 0;
-    while j < last {
-        out[j] = entry_without(row, i, j);
-        j += 1;
-    }
+    out[..i].copy_from_slice(&row[..i]);
+    out[i..last].copy_from_slice(&row[i + 1..]);
 }
 
 // The sum of a list without one entry.
@@ -84,12 +70,7 @@ fn less(sum: u64, other: u64) -> i64
     requires { (sum < 2 ^ 58) × (other < 2 ^ 58) }
     ensures { result ≡ pos sum -ℤ pos other }
 {
-    if sum < other {
-        let below = other - sum;
-        return 0 - below as i64;
-    }
-    let above = sum - other;
-    above as i64
+    sum as i64 - other as i64
 }
 
 // A figure for each entry, in the first entries of a row.
@@ -111,13 +92,11 @@ fn fill_figures(
     requires froms_in_bounds { length froms.now ≤ length row.old }
     ensures { row.new ≡ figures_any_of (run_at starts lengths aggregates numbers counts head turn) (list_of froms.now tos.now) ++ drop (length froms.now) row.old }
 {
-    let mut i: usize = 0;
-    while i < froms.len() {
+    for i in 0..froms.len() {
         let left = sum_without(
             starts, lengths, aggregates, numbers, counts, head, turn, froms, tos, i,
         );
         row[i] = less(left, sum);
-        i += 1;
     }
 }
 
@@ -142,11 +121,7 @@ pub fn figures_any(
     let answer = price_any(
         starts, lengths, aggregates, numbers, counts, head, turn, froms, tos, &mut times, &mut legs,
     );
-    let kind = answer.refusal;
-    if refused(Verdict {
-        refusal: kind,
-        place: 0,
-    }) {
+    if answer.refusal != Refusal::Accepted {
         return answer;
     }
     if row.len() < froms.len() {
@@ -155,9 +130,8 @@ pub fn figures_any(
             place: 0,
         });
     }
-    let sum = answer.sum;
     fill_figures(
-        starts, lengths, aggregates, numbers, counts, head, turn, froms, tos, sum, row,
+        starts, lengths, aggregates, numbers, counts, head, turn, froms, tos, answer.sum, row,
     );
     answer
 }
@@ -178,9 +152,9 @@ pub fn figures(
     ensures value { result ≡ figures_answer (run_at starts lengths aggregates numbers counts head turn) froms.now tos.now row.old }
     ensures row_after { row.new ≡ figures_row (run_at starts lengths aggregates numbers counts head turn) froms.now tos.now row.old }
 {
-    let run = runs::judge(starts, lengths, aggregates, numbers, counts, head, turn);
-    if refused(run) {
-        return walk::refuse(run);
+    let judged = runs::judge(starts, lengths, aggregates, numbers, counts, head, turn);
+    if let Err(refusal) = judged {
+        return walk::refuse(refusal);
     }
     figures_any(
         starts, lengths, aggregates, numbers, counts, head, turn, froms, tos, row,

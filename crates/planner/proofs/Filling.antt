@@ -5,7 +5,7 @@ use mathlib.Core.List.{List, [], ◌∷◌, ◌++◌, map}
 use native.Mathlib.Omega.{arith}
 use native.Mathlib.Numerals.{add-one}
 use lib.ListN.{length, get_or, take, drop, set, length-set}
-use lib.Seq.{length-take-le, take_all, take-suc, drop-cons, append_snoc, set_at, get_or_at}
+use lib.Seq.{length-take-le, take-suc, drop-cons, append_snoc, set_at, get_or_at}
 
 pub record Filling (target row₀ row : List ℕ) (i : ℕ) : Type 0 where
   pub fits : length target ≤ length row₀
@@ -35,11 +35,6 @@ module _ (target row₀ row : List ℕ) (i : ℕ) (p : Filling target row₀ row
             ∙ set_at (take i target) (get_or row₀ i 0) (drop (suc i) row₀) n i size
             ∙ rw (add-one, take-suc target i 0 l, e) (sym (append_snoc (take i target) (get_or target i 0) (drop (suc i) row₀)));
       }
-
-  pub filling_all : length target ≤ i → row ≡ target ++ drop (length target) row₀
-  filling_all h =
-      let last : i ≡ length target = omega (arith, p.within) in
-      p.is ∙ rw (take_all i target h, last) refl
 
 -- The entry of a row that was made of another.
 pub map_at : (f : ℕ → ℕ) (row : List ℕ) (i : ℕ) → i < length row → get_or (map f row) i 0 ≡ f (get_or row i 0)

@@ -9,7 +9,8 @@ use lib.Dec.{ltb}
 use borrow.Author.Tests.{le-ltb}
 use Rattle.refusals.specs.declared.Refusal.TheVariants.{ShortRow, ShortRoom}
 use Rattle.refusals.specs.declared.Verdict.{Verdict}
-use Rattle.refusals.specs.Refusals.{accepted, refuse_if, first_of}
+use Rattle.std.specs.Prelude.{Result, Ok, Err}
+use Rattle.refusals.specs.Refusals.{refuse_if, first_of}
 use Rattle.refusals.proofs.Verdicts.{refuses, first_passes}
 use Rattle.runs.specs.Run.{Run, Stop, stops_of, total, most_wants}
 use Rattle.runs.specs.Alone.{alone_of}
@@ -22,22 +23,14 @@ use Rattle.runs.proofs.Stops.{run_sound}
 use Rattle.runs.proofs.AnyHead.{judge_any_lem, accepted_any}
 use Rattle.engine_stops.proofs.Table.{joined_stops, joined_accepted, joined_wants, joined_reads}
 use Rattle.engine_stops.proofs.Renamed.{Within, InTable, formed_within}
-use Rattle.engine_table.specs.declared.Listed.{Listed}
-use Rattle.engine_table.specs.Listing.{ListRows, list_rows, Lists, IsListed, NotListed, listing_verdict, short_list_rows, room_size}
+use Rattle.engine_table.specs.Listing.{ListRows, list_rows, Lists, IsListed, listing_verdict, short_list_rows, room_size}
 use Rattle.planner.specs.Plan.{room_for}
 use Rattle.planner.specs.Private.{RunInRows, first_file_in, stops_verdict, ListsNamed}
+use Rattle.engine_stops.proofs.Said.{one_answer, same_number}
 use Rattle.engine_stops.proofs.Halves.{front, behind, holds_front, entry_in}
 use Rattle.planner.proofs.Joined.{few_stops}
 use Rattle.planner.proofs.Named.{least_named}
 use Rattle.engine_stops.specs.Private.{count_up, joined_table, name_of, entry_named, list_named}
-
--- An answer that says a verdict where that refuses, and accepts where it does not, refuses where the verdict does.
-pub told : (v w : Verdict) → (refuses v ≡ true → w ≡ v) → (refuses v ≡ false → w ≡ accepted) → refuses w ≡ refuses v
-told v w refused passed = go (refuses v) refl
-  where
-    go : (b : Bool) → refuses v ≡ b → refuses w ≡ refuses v
-    go true e = ap refuses (refused e)
-    go false e = ap refuses (passed e) ∙ sym e
 
 -- The numbers of a joined table, out of more.
 pub count_part : (n j k : ℕ) → k ≤ j → take k (count_up n j) ≡ count_up n k
@@ -98,7 +91,7 @@ module _ (r : Run) (firsts lefts spans reads : List ℕ) (head turn : ℕ) (h : 
   pub stops_fit : length firsts ≤ 64
   stops_fit = omega (arith, size, few_stops r h.accepts)
 
-  module _ (before mid : ListRows) (l : Listed) (numbers : List ℕ) (counted : numbers ≡ count_up 1 (length firsts)) (engine : Lists (alone_of lefts spans numbers reads head turn) before l mid) where
+  module _ (before mid : ListRows) (l : Result ℕ Verdict) (numbers : List ℕ) (counted : numbers ≡ count_up 1 (length firsts)) (engine : Lists (alone_of lefts spans numbers reads head turn) before l mid) where
     table_is : alone_of lefts spans numbers reads head turn ≡ joined_table r
     table_is = same_table_here h.starts h.lengths (counted ∙ ap (count_up 1) size) h.counts h.at_head h.at_price
       where
@@ -108,43 +101,48 @@ module _ (r : Run) (firsts lefts spans reads : List ℕ) (head turn : ℕ) (h : 
     lists : Lists (joined_table r) before l mid
     lists = subst (λ t. Lists t before l mid) table_is engine
 
-    answers : refuses l.verdict ≡ refuses (stops_verdict r before)
-    answers =
-        told (listing_verdict (joined_table r) before) l.verdict (λ e. ap (λ x. x.verdict) (lists.refused e).says) (λ e. ap (λ x. x.verdict) (lists.listed e).says)
-        ∙ ap refuses (verdict_same_here r h.accepts before)
+    same_here : listing_verdict (joined_table r) before ≡ stops_verdict r before
+    same_here = verdict_same_here r h.accepts before
 
-    pub named_refused : refuses l.verdict ≡ true → ListsNamed r before l mid
-    named_refused e =
+    pub named_refused : (e : Verdict) → Err e ≡ l → ListsNamed r before (Err e) mid
+    named_refused e said =
         record {
-          refused = λ q. subst (λ v. NotListed v before l mid) (verdict_same_here r h.accepts before) (lists.refused (ap refuses (verdict_same_here r h.accepts before) ∙ q));
-          listed = λ q. absurd (true≢false (sym e ∙ answers ∙ q));
+          refused = λ q. let no = lists.refused (ap refuses same_here ∙ q) in record { says = said ∙ no.says ∙ ap Err same_here; kept = no.kept };
+          listed = λ q. one_answer (said ∙ (lists.listed (ap refuses same_here ∙ q)).says);
         }
 
-    module _ (passes : refuses l.verdict ≡ false) where
-      is_listed : IsListed (joined_table r) before l mid
-      is_listed = lists.listed (ap refuses (verdict_same_here r h.accepts before) ∙ sym answers ∙ passes)
+    module _ (k : ℕ) (said : Ok k ≡ l) where
+      passes : refuses (listing_verdict (joined_table r) before) ≡ false
+      passes = go (refuses (listing_verdict (joined_table r) before)) refl
+        where
+          go : (b : Bool) → refuses (listing_verdict (joined_table r) before) ≡ b → refuses (listing_verdict (joined_table r) before) ≡ false
+          go true e = one_answer (sym (lists.refused e).says ∙ sym said)
+          go false e = e
 
-      n_is : l.detours ≡ length is_listed.list
-      n_is = ap (λ x. x.detours) is_listed.says
+      is_listed : IsListed (joined_table r) before l mid
+      is_listed = lists.listed passes
+
+      n_is : k ≡ length is_listed.list
+      n_is = same_number (said ∙ is_listed.says)
 
       sound : Sound (stops_of r) (lifted r).head
       sound = run_sound (lifted r) (accepted_any r h.accepts).run
 
       -- Every entry is a file of the joined table.
-      within : (i : ℕ) → i < l.detours → InTable (stops_of r) (lifted r).head sound (entry_of is_listed.list i)
+      within : (i : ℕ) → i < k → InTable (stops_of r) (lifted r).head sound (entry_of is_listed.list i)
       within i b =
           formed_within (stops_of r) (lifted r).head sound is_listed.list
           (rw (joined_stops (lifted r) (lifted_accepts r h.accepts)) at (any_formed r.head (stops_of (joined_table r)) is_listed.list is_listed.least.formed)) i (omega (arith, n_is))
 
       pub record Nameable (row : List ℕ) : Type 0 where
-        pub long : l.detours ≤ length row
-        pub each : (i : ℕ) → i < l.detours → (0 < get_or row i 0) × (get_or row i 0 ≤ length firsts)
+        pub long : k ≤ length row
+        pub each : (i : ℕ) → i < k → (0 < get_or row i 0) × (get_or row i 0 ≤ length firsts)
 
-      nameable : (f : Detour → ℕ) → f (record { from = 0; to = 0 }) ≡ 0 → ((i : ℕ) → i < l.detours → Within (stops_of r) (f (entry_of is_listed.list i)))
+      nameable : (f : Detour → ℕ) → f (record { from = 0; to = 0 }) ≡ 0 → ((i : ℕ) → i < k → Within (stops_of r) (f (entry_of is_listed.list i)))
           → (row row' : List ℕ) → row' ≡ map f is_listed.list ++ drop (length is_listed.list) row → Nameable row'
       nameable f z in_table row row' is =
           record {
-            long = holds_front f is_listed.list l.detours row row' n_is is;
+            long = holds_front f is_listed.list k row row' n_is is;
             each = λ i b. let e = entry_in f is_listed.list row row' z is i (omega (arith, n_is)) in
                 (omega (arith, e, (in_table i b).least), omega (arith, e, (in_table i b).most, size));
           }
@@ -155,24 +153,24 @@ module _ (r : Run) (firsts lefts spans reads : List ℕ) (head turn : ℕ) (h : 
       pub tos_nameable : Nameable mid.tos
       tos_nameable = nameable (λ d. d.to) refl (λ i b. (within i b).to) before.tos mid.tos (ap (λ x. x.tos) is_listed.rows)
 
-      pub named_listed : (froms tos : List ℕ) → froms ≡ map (first_file_in firsts) (take l.detours mid.froms) ++ drop l.detours mid.froms
-          → tos ≡ map (first_file_in firsts) (take l.detours mid.tos) ++ drop l.detours mid.tos → ListsNamed r before l (list_rows froms tos mid.room)
+      pub named_listed : (froms tos : List ℕ) → froms ≡ map (first_file_in firsts) (take k mid.froms) ++ drop k mid.froms
+          → tos ≡ map (first_file_in firsts) (take k mid.tos) ++ drop k mid.tos → ListsNamed r before (Ok k) (list_rows froms tos mid.room)
       named_listed froms tos froms-are tos-are =
           record {
-            refused = λ q. absurd (true≢false (sym q ∙ sym answers ∙ passes));
+            refused = λ q. absurd (true≢false (sym (ap refuses same_here ∙ q) ∙ passes));
             listed = λ q.
                 record {
                   list = list_named (stops_of r) is_listed.list;
                   least = least_named r h.accepts is_listed.list is_listed.least;
-                  says = is_listed.says ∙ ap (λ n. record { verdict = accepted; detours = n }) (sym (named_length (stops_of r) is_listed.list));
+                  says = ap Ok (n_is ∙ sym (named_length (stops_of r) is_listed.list));
                   rows = rows_are (half (λ d. d.from) (λ d. refl) before.froms mid.froms froms froms-are (ap (λ x. x.froms) is_listed.rows)) (half (λ d. d.to) (λ d. refl) before.tos mid.tos tos tos-are (ap (λ x. x.tos) is_listed.rows)) room_is;
                 };
           }
         where
-          half : (f : Detour → ℕ) → ((d : Detour) → f (entry_named (stops_of r) d) ≡ name_of (stops_of r) (f d)) → (row row' row'' : List ℕ) → row'' ≡ map (first_file_in firsts) (take l.detours row') ++ drop l.detours row'
+          half : (f : Detour → ℕ) → ((d : Detour) → f (entry_named (stops_of r) d) ≡ name_of (stops_of r) (f d)) → (row row' row'' : List ℕ) → row'' ≡ map (first_file_in firsts) (take k row') ++ drop k row'
               → row' ≡ map f is_listed.list ++ drop (length is_listed.list) row → row'' ≡ map f (list_named (stops_of r) is_listed.list) ++ drop (length (list_named (stops_of r) is_listed.list)) row
           half f same row row' row'' out is =
-              row_named (stops_of r) f same is_listed.list l.detours row row' row'' n_is is (rw h.first_files at out)
+              row_named (stops_of r) f same is_listed.list k row row' row'' n_is is (rw h.first_files at out)
               ∙ ap (λ n. map f (list_named (stops_of r) is_listed.list) ++ drop n row) (sym (named_length (stops_of r) is_listed.list))
 
           room_is : mid.room ≡ replicate (room_for r) 0 ++ drop (room_for r) before.room

@@ -4,27 +4,27 @@ use mathlib.Core.Path.{◌≡◌, ap}
 use mathlib.Core.Bool.{false}
 use mathlib.Core.List.{List, ◌++◌, map}
 use lib.ListN.{length, take, drop}
+use Rattle.std.specs.Prelude.{Ok}
 use Rattle.refusals.specs.Refusals.{is_refusal}
 use Rattle.refusals.proofs.Verdicts.{refuses}
-use Rattle.runs.specs.Run.{Run, stops_of}
+use Rattle.runs.specs.Run.{Run}
 use Rattle.runs.specs.AnyHead.{judge_any_of}
 use Rattle.runs.specs.Lists.{list_of}
 use Rattle.walk.specs.declared.Answer.{Answer}
 use Rattle.walk.specs.AnyHead.{price_any_verdict, price_any_answer, price_any_rows}
 use Rattle.walk.specs.Rows.{read_rows}
-use Rattle.engine_table.specs.declared.Listed.{Listed}
 use Rattle.engine_table.specs.Listing.{list_rows}
 use Rattle.planner.specs.AnyHead.{PlannedAny}
 use Rattle.planner.specs.Rows.{Rows, rows_of, reads_in}
-use Rattle.planner.specs.Private.{IsNamed}
-use Rattle.engine_stops.proofs.Halves.{list_of_halves, halves_even, front, holds_front}
+use Rattle.planner.specs.Private.{IsNamed, engine_rows}
+use Rattle.engine_stops.proofs.Halves.{list_of_halves, halves_even, front}
 use Rattle.walk.proofs.AnyHead.{any_priced}
-use Rattle.planner.proofs.Refusals.{engine_rows}
+use Rattle.engine_stops.proofs.Said.{same_number}
 
 module _ (r : Run) (rows : Rows) (accepts : is_refusal (judge_any_of r).refusal ≡ false) (long : length r.numbers ≤ length rows.times)
-    (long-legs : length r.numbers ≤ length rows.legs) (l : Listed) (froms' tos' room' : List ℕ) (listed : IsNamed r (engine_rows rows) l (list_rows froms' tos' room')) where
-  n_is : l.detours ≡ length listed.list
-  n_is = ap (λ x. x.detours) listed.says
+    (long-legs : length r.numbers ≤ length rows.legs) (n : ℕ) (froms' tos' room' : List ℕ) (listed : IsNamed r (engine_rows rows) (Ok n) (list_rows froms' tos' room')) where
+  n_is : n ≡ length listed.list
+  n_is = same_number listed.says
 
   froms_are : froms' ≡ map (λ d. d.from) listed.list ++ drop (length listed.list) rows.froms
   froms_are = ap (λ x. x.froms) listed.rows
@@ -32,33 +32,26 @@ module _ (r : Run) (rows : Rows) (accepts : is_refusal (judge_any_of r).refusal 
   tos_are : tos' ≡ map (λ d. d.to) listed.list ++ drop (length listed.list) rows.tos
   tos_are = ap (λ x. x.tos) listed.rows
 
-  -- So many entries are in both rows.
-  pub in_froms : l.detours ≤ length froms'
-  in_froms = holds_front (λ d. d.from) listed.list l.detours rows.froms froms' n_is froms_are
+  froms_front : take n froms' ≡ map (λ d. d.from) listed.list
+  froms_front = front (λ d. d.from) listed.list n rows.froms froms' n_is froms_are
 
-  pub in_tos : l.detours ≤ length tos'
-  in_tos = holds_front (λ d. d.to) listed.list l.detours rows.tos tos' n_is tos_are
+  tos_front : take n tos' ≡ map (λ d. d.to) listed.list
+  tos_front = front (λ d. d.to) listed.list n rows.tos tos' n_is tos_are
 
-  froms_front : take l.detours froms' ≡ map (λ d. d.from) listed.list
-  froms_front = front (λ d. d.from) listed.list l.detours rows.froms froms' n_is froms_are
-
-  tos_front : take l.detours tos' ≡ map (λ d. d.to) listed.list
-  tos_front = front (λ d. d.to) listed.list l.detours rows.tos tos' n_is tos_are
-
-  priced_list : list_of (take l.detours froms') (take l.detours tos') ≡ listed.list
+  priced_list : list_of (take n froms') (take n tos') ≡ listed.list
   priced_list =
       rw (froms_front, tos_front)
       (list_of_halves listed.list)
 
-  priced : refuses (price_any_verdict r (take l.detours froms') (take l.detours tos') (reads_in rows)) ≡ false
+  priced : refuses (price_any_verdict r (take n froms') (take n tos') (reads_in rows)) ≡ false
   priced =
-      any_priced r (take l.detours froms') (take l.detours tos') (reads_in rows) accepts
+      any_priced r (take n froms') (take n tos') (reads_in rows) accepts
       (rw (froms_front, tos_front) (halves_even (λ d. d.from) (λ d. d.to) listed.list))
       (rw priced_list listed.least.formed) long long-legs
 
   -- The pricer's answer for the list is the planner's.
-  pub planned_so : (answer : Answer) (times' legs' : List ℕ) → answer ≡ price_any_answer r (take l.detours froms') (take l.detours tos') (reads_in rows)
-      → read_rows times' legs' ≡ price_any_rows r (take l.detours froms') (take l.detours tos') (reads_in rows)
+  pub planned_so : (answer : Answer) (times' legs' : List ℕ) → answer ≡ price_any_answer r (take n froms') (take n tos') (reads_in rows)
+      → read_rows times' legs' ≡ price_any_rows r (take n froms') (take n tos') (reads_in rows)
       → PlannedAny r rows answer (rows_of froms' tos' times' legs' room')
   unfolding price_any_answer price_any_rows
   planned_so answer times' legs' a t =

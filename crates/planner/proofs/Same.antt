@@ -1,13 +1,15 @@
 -- Of a run that 01 accepts the plan from a head anywhere is 01's: nothing is pulled, and what is refused and planned is the same.
 use mathlib.Core.Path.{◌≡◌, refl, sym, ap, ◌∙◌}
-use mathlib.Core.Bool.{Bool, true, false, true≢false}
+use mathlib.Core.Bool.{false, true≢false}
 use mathlib.Core.List.{List, [], ◌∷◌}
 use lib.ListN.{length}
 use lib.Dec.{ltb}
-use Rattle.refusals.specs.declared.Refusal.TheVariants.{HeadPlace, ShortRow, ShortRoom}
+use Rattle.refusals.specs.declared.Refusal.TheVariants.{ShortRow, ShortRoom}
 use Rattle.refusals.specs.declared.Verdict.{Verdict}
-use Rattle.refusals.specs.Refusals.{is_refusal, refuse_if, first_of}
-use Rattle.refusals.proofs.Verdicts.{refuses, first_refuses, test_says}
+use Rattle.std.specs.Prelude.{Err}
+use Rattle.refusals.specs.Refusals.{is_refusal, checked, refuse_if}
+use Rattle.refusals.proofs.Verdicts.{refuses, first_refuses}
+use Rattle.refusals.proofs.Checked.{stopped}
 use Rattle.runs.specs.Run.{Run, stops_of}
 use Rattle.runs.specs.Judging.{judge_of}
 use Rattle.runs.specs.AnyHead.{judge_any_of}
@@ -32,13 +34,14 @@ module _ (r : Run) (before : Rows) where
   verdict_same e = rw e
 
   -- A run that the judging refuses.
-  pub run_refused : (v : Verdict) (f : Bool) → v ≡ judge_of r → f ≡ is_refusal v.refusal → f ≡ true → (a : Answer) → a ≡ refusal_answer v → Plans r before a before
+  pub run_refused : (e : Verdict) → Err e ≡ checked (judge_of r) → (a : Answer) → a ≡ refusal_answer e → Plans r before a before
   unfolding plan_verdict
-  run_refused v f v-is f-is e a says =
-      let whole : v ≡ plan_verdict r before = v-is ∙ first_refuses (judge_of r) rest (test_says v-is f-is e) in
+  run_refused e said a says =
+      let s = stopped (judge_of r) e said in
+      let whole : judge_of r ≡ plan_verdict r before = first_refuses (judge_of r) rest s.so in
       record {
-        refused = λ q. record { says = rw whole at says; kept = refl };
-        planned = λ q. absurd (true≢false (sym e ∙ f-is ∙ ap refuses whole ∙ q));
+        refused = λ q. record { says = says ∙ ap refusal_answer (sym s.is ∙ whole); kept = refl };
+        planned = λ q. absurd (true≢false (sym s.so ∙ ap refuses whole ∙ q));
       }
 
   module _ (accepts : refuses (judge_of r) ≡ false) where

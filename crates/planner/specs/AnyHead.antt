@@ -1,5 +1,5 @@
 -- What the planner for a head anywhere answers, for every input: as 01's, with 7 only for a head above the limit, and the least list for that head.
-use Rattle.std.specs.Prelude.{ℕ, ◌≡◌, true, false, List, [], ◌∷◌, ◌++◌, map, length, drop, replicate, ltb}
+use Rattle.std.specs.Prelude.{◌≡◌, true, false, List, [], ◌∷◌, ◌++◌, map, length, drop, replicate, ltb}
 use Rattle.refusals.specs.declared.Refusal.TheVariants.{ShortRow, ShortRoom}
 use Rattle.refusals.specs.declared.Verdict.{Verdict}
 use Rattle.refusals.specs.Refusals.{is_refusal, refuse_if, first_of}

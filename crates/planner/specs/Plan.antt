@@ -8,7 +8,6 @@ use Rattle.runs.specs.Run.{Run, total, stops_of}
 use Rattle.runs.specs.Judging.{judge_of}
 use Rattle.runs.specs.Lists.{Detour}
 use Rattle.walk.specs.Price.{refusal_answer, priced_answer, priced_times, priced_legs, short_read_rows}
-use Rattle.walk.specs.Rows.{ReadRows, read_rows}
 use Rattle.least.specs.Least.{LeastForRun}
 use Rattle.planner.specs.Rows.{Rows, reads_in}
 

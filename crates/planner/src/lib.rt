@@ -3,28 +3,25 @@
 // head 01 accepts.
 #![tactic(auto)]
 
-ghost use Rattle.std.specs.Prelude.{◌≡◌, ◌||◌, map, ◌++◌, ℕ, ◌≤◌, ◌<◌, length, get_or, take, drop, ltb};
+ghost use Rattle.std.specs.Prelude.{◌≡◌, map, ◌++◌, ℕ, ◌≤◌, ◌<◌, length, get_or, take, drop};
 ghost use Rattle.runs.specs.Run.{Run};
 ghost use Rattle.runs.specs.Rows.{run_at};
 ghost use Rattle.engine_table.specs.Listing.{list_rows_before, list_rows_after};
 ghost use Rattle.planner.specs.Plan.{Plans};
 ghost use Rattle.planner.specs.AnyHead.{PlansAny};
 ghost use Rattle.planner.specs.Rows.{rows_before, rows_after};
-ghost use Rattle.planner.specs.Private.{RunInRows, HoldsSome, first_file_in, ListsNamed};
+ghost use Rattle.planner.specs.Private.{RunInRows, HoldsSome, first_file_in, ListsNamed, ListsAny, rows_judged};
 ghost use Rattle.engine_stops.specs.Private.{count_up};
 
-use engine_table::Listed;
-use refusals::{Refusal, Verdict, refused};
+use refusals::{Refusal, Verdict};
 use walk::Answer;
 
 // The numbers from 1 on.
 fn count_up(row: &mut [u64])
     ensures { row.new ≡ count_up 1 (length row.old) }
 {
-    let mut i: usize = 0;
-    while i < row.len() {
-        row[i] = (i + 1) as u64;
-        i += 1;
+    for (i, number) in row.iter_mut().enumerate() {
+        *number = i as u64 + 1;
     }
 }
 
@@ -34,15 +31,12 @@ fn name_files(firsts: &[u64], row: &mut [u64], entries: usize)
     requires by_index { (i : ℕ) → i < entries → (0 < get_or row.old i 0) × (get_or row.old i 0 ≤ length firsts.now) }
     ensures { row.new ≡ map (first_file_in firsts.now) (take entries row.old) ++ drop entries row.old }
 {
-    let mut i: usize = 0;
-    while i < entries {
-        let file = row[i];
-        row[i] = firsts[(file - 1) as usize];
-        i += 1;
+    for file in row[..entries].iter_mut() {
+        *file = firsts[(*file - 1) as usize];
     }
 }
 
-// The least list of a run whose stops four rows hold: that of the joined table, by first files.
+// The least list of a run whose stops four rows hold: that of the joined table, by first files. Answers the number of its detours.
 fn list_named(
     firsts: &[u64],
     lefts: &[u64],
@@ -53,14 +47,14 @@ fn list_named(
     froms: &mut [u64],
     tos: &mut [u64],
     room: &mut [u64],
-) -> Listed
+) -> Result<usize, Verdict>
     requires { HoldsSome firsts.now lefts.now spans.now reads.now head turn }
     ensures { (r : Run) → RunInRows r firsts.now lefts.now spans.now reads.now head turn → ListsNamed r (list_rows_before froms tos room) result (list_rows_after froms tos room) }
 {
     let mut numbers = [0u64; 64];
     count_up(&mut numbers);
     let k = firsts.len();
-    let list = engine_table::list(
+    let n = engine_table::list(
         lefts,
         spans,
         &numbers[..k],
@@ -70,25 +64,58 @@ fn list_named(
         froms,
         tos,
         room,
-    );
-    let verdict = list.verdict;
-    if refused(verdict) {
-        return list;
-    }
-    let n = list.detours as usize;
+    )?;
     name_files(firsts, froms, n);
     name_files(firsts, tos, n);
-    list
+    Ok(n)
 }
 
-// Whether a row for times or for legs has no entry for each want.
-fn short_rows(wants: usize, times: usize, legs: usize) -> bool
-    ensures { result ≡ (ltb times wants || ltb legs wants) }
+// The least list of a run with a head anywhere, after all that the planner judges: the number of its detours, or the first refusal that applies.
+fn list_any(
+    starts: &[u64],
+    lengths: &[u64],
+    aggregates: &[u64],
+    numbers: &[u64],
+    counts: &[u64],
+    head: u64,
+    turn: u64,
+    froms: &mut [u64],
+    tos: &mut [u64],
+    times: &[u64],
+    legs: &[u64],
+    room: &mut [u64],
+) -> Result<usize, Verdict>
+    ensures { ListsAny (run_at starts lengths aggregates numbers counts head turn) (rows_judged froms tos times legs room) result (list_rows_after froms tos room) }
 {
-    if times < wants {
-        return true;
-    }
-    legs < wants
+    let mut firsts = [0u64; 64];
+    let mut lefts = [0u64; 64];
+    let mut spans = [0u64; 64];
+    let mut reads = [0u64; 64];
+    let k = engine_stops::join(
+        starts,
+        lengths,
+        aggregates,
+        numbers,
+        counts,
+        runs::lift_head(head),
+        turn,
+        &mut firsts,
+        &mut lefts,
+        &mut spans,
+        &mut reads,
+    )?;
+    Refusal::ShortRow.when(walk::short_rows(numbers.len(), times.len(), legs.len()))?;
+    list_named(
+        &firsts[..k],
+        &lefts[..k],
+        &spans[..k],
+        &reads[..k],
+        head,
+        turn,
+        froms,
+        tos,
+        room,
+    )
 }
 
 // The plan of a run with a head anywhere: its answer, and in the lent rows the list, the times and the legs.
@@ -108,63 +135,25 @@ pub fn plan_any(
 ) -> Answer
     ensures { PlansAny (run_at starts lengths aggregates numbers counts head turn) (rows_before froms tos times legs room) result (rows_after froms tos times legs room) }
 {
-    let mut firsts = [0u64; 64];
-    let mut lefts = [0u64; 64];
-    let mut spans = [0u64; 64];
-    let mut reads = [0u64; 64];
-    let joined = engine_stops::join(
-        starts,
-        lengths,
-        aggregates,
-        numbers,
-        counts,
-        runs::lift_head(head),
-        turn,
-        &mut firsts,
-        &mut lefts,
-        &mut spans,
-        &mut reads,
+    let listed = list_any(
+        starts, lengths, aggregates, numbers, counts, head, turn, froms, tos, times, legs, room,
     );
-    let run = joined.verdict;
-    if refused(run) {
-        return walk::refuse(run);
+    match listed {
+        Ok(n) => walk::price_any(
+            starts,
+            lengths,
+            aggregates,
+            numbers,
+            counts,
+            head,
+            turn,
+            &froms[..n],
+            &tos[..n],
+            times,
+            legs,
+        ),
+        Err(verdict) => walk::refuse(verdict),
     }
-    if short_rows(numbers.len(), times.len(), legs.len()) {
-        return walk::refuse(Verdict {
-            refusal: Refusal::ShortRow,
-            place: 0,
-        });
-    }
-    let k = joined.stops;
-    let list = list_named(
-        &firsts[..k],
-        &lefts[..k],
-        &spans[..k],
-        &reads[..k],
-        head,
-        turn,
-        froms,
-        tos,
-        room,
-    );
-    let verdict = list.verdict;
-    if refused(verdict) {
-        return walk::refuse(verdict);
-    }
-    let n = list.detours as usize;
-    walk::price_any(
-        starts,
-        lengths,
-        aggregates,
-        numbers,
-        counts,
-        head,
-        turn,
-        &froms[..n],
-        &tos[..n],
-        times,
-        legs,
-    )
 }
 
 // The plan of a run of 01: the head is judged by its 7, and then planned from as any.
@@ -184,9 +173,9 @@ pub fn plan(
 ) -> Answer
     ensures { Plans (run_at starts lengths aggregates numbers counts head turn) (rows_before froms tos times legs room) result (rows_after froms tos times legs room) }
 {
-    let run = runs::judge(starts, lengths, aggregates, numbers, counts, head, turn);
-    if refused(run) {
-        return walk::refuse(run);
+    let judged = runs::judge(starts, lengths, aggregates, numbers, counts, head, turn);
+    if let Err(refusal) = judged {
+        return walk::refuse(refusal);
     }
     plan_any(
         starts, lengths, aggregates, numbers, counts, head, turn, froms, tos, times, legs, room,

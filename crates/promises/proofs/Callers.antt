@@ -1,6 +1,6 @@
 -- What a caller in Rattle is told: short laws over those of the table, of the stops and of the month.
 use Prim.Native.Nat.{ℕ, ◌+◌, ◌-◌, ◌^◌, ◌≤◌, ◌<◌}
-use mathlib.Core.Path.{◌≡◌, refl, sym, ap, ◌∙◌}
+use mathlib.Core.Path.{◌≡◌, refl, sym, ap, ◌∙◌, subst}
 use mathlib.Core.Bool.{Bool, true, false, cond, ◌||◌, true≢false}
 use mathlib.Core.Logic.{◌⊎◌, inl, inr, ⊎_elim, ◌↔◌}
 use mathlib.Core.List.{List, [], ◌∷◌, ◌++◌, map}
@@ -23,7 +23,8 @@ use Rattle.sheet_writer.specs.Writing.{written_answer}
 use Rattle.answer_outcome.specs.declared.Outcome.{Outcome}
 use Rattle.answer_month.specs.declared.Month.{Month}
 use Rattle.answer_month.specs.Month.{too_large, grown, refused_with, over_refused, with_refused, over_totals, with_totals, named_by, with_longest, added, added_all}
-use Rattle.demands.specs.RefusalTable.{RunApplies}
+use Rattle.engine_stops.proofs.Said.{one_answer, same_verdict, same_number}
+use Rattle.demands.specs.RefusalTable.{HasStops, RunApplies, FirstThatApplies}
 use Rattle.demands.specs.AnyHead.{RunAppliesAny}
 use Rattle.demands.proofs.Tests.{Tells, tells_below, tells_at_most, tells_true, tells_either, tells_holds}
 use Rattle.demands.proofs.Checks.{decides_if, decides_reworded, Finds, finds_none, finds_first}
@@ -111,14 +112,20 @@ module _ (r : Run) (rows : JoinRows) where
   unfolding join_verdict join_answer join_rows_of
   join_says true e =
       let never : (first_of checks).refusal ≡ Accepted → ⊥ = λ a. true≢false (sym e ∙ ap is_refusal a) in
-      rw e (record { first = join_finds; kept = λ n. (refl, refl); counted = λ a. absurd (never a); joined = λ a. absurd (never a) })
-  join_says false e =
       rw e
       (record {
         first = join_finds;
-        kept = λ n. absurd (n (ap (λ v. v.refusal) (none_refuses checks e)));
-        counted = λ a. (has_stops r (accepted_run r (all_accept checks e).0), refl);
-        joined = λ a.
+        kept = λ v said. (λ a. never (ap (λ x. x.refusal) (same_verdict said) ∙ a), refl);
+        counted = λ n said. one_answer said;
+        joined = λ n said. one_answer said;
+      })
+  join_says false e =
+      rw e
+      (record {
+        first = subst (λ v. FirstThatApplies (JoinApplies r rows) join_order v.refusal v.place) (none_refuses checks e) join_finds;
+        kept = λ v said. one_answer (sym said);
+        counted = λ n said. subst (λ m. HasStops r m × (m ≡ length (stops_of r))) (same_number said) (has_stops r (accepted_run r (all_accept checks e).0), refl);
+        joined = λ n said.
             record {
               firsts = has_of_each (λ s. s.file) (stops_of r) rows.firsts refl;
               lefts = has_of_each (λ s. s.start) (stops_of r) rows.lefts refl;

@@ -32,7 +32,7 @@ short_for_two_entries r starts' ends' h = h.verdict ∙ rw entries_formed
 
 pub joins_the_example : JoinsTheExample
 unfolding join_verdict join_answer join_rows_of judge_of first_where goes_on first_member last_within want_stops join_to joined right_end sheet_run sheet_head sheet_turn_with turn_with sheet_files file_text wants_text sheet_wants want_text each_of line_of after_lines has before behind value_from
-joins_the_example answer after says fills = (ap (λ a. a.stops) says, fills)
+joins_the_example answer after says fills = (says, fills)
 
 pub lines_of_a_month : LinesOfAMonth
 unfolding part_of count_of is_count is_number all_of value_from has before behind

@@ -15,11 +15,9 @@ use Rattle.text_bytes.specs.Text.{line_feed, has, behind, starts_with, is_text}
 use Rattle.text_bytes.proofs.Bytes.{and_true_both}
 use Rattle.text_bytes.proofs.Split.{behind_here}
 use Rattle.text_bytes.proofs.Decimals.{has_append}
-use Rattle.text_lines.specs.declared.NumberLine.{NumberLine}
+use Rattle.std.specs.Prelude.{Option, Some, None}
 use Rattle.text_lines.specs.Lines.{line_of, after_lines, value_text}
 use Rattle.text_lines.specs.Found.{Passed}
-use Rattle.sheet_reader.specs.declared.NameLine.{NameLine}
-use Rattle.sheet_reader.specs.declared.RuleLine.{RuleLine}
 use Rattle.sheet_reader.specs.Lines.{tape_key, turn_key, rule_key, sweep_text, least_text, is_tape_line, is_turn_line, is_rule_line, names_sweep, turn_with}
 use Rattle.tape_ranges.specs.declared.File.{File}
 use Rattle.tape_ranges.specs.declared.Tally.{Tally}
@@ -85,27 +83,27 @@ module _ (text : List ℕ) (at : ℕ) where
 
 pub turn_line_is_read : TurnLineIsRead
 unfolding has after_lines
-turn_line_is_read text at (NumberLine.Value turn next) h =
+turn_line_is_read text at (Some line) h =
     let s = (tells_turn (drop at text) 0).when_true h.0.good in
-    first_at turn_key refl NumberOrNothing nothing_flat text at is_turn_line next _ h.0 s (s.kind, rw h.1 (price_read text at s))
-turn_line_is_read text at NumberLine.Bad h = none_at_here turn_key refl NumberOrNothing nothing_flat text at (is_turn_line (line_of (drop at text))) (tells_turn (drop at text) 0) h
+    first_at turn_key refl NumberOrNothing nothing_flat text at is_turn_line line.next _ h.0 s (s.kind, rw h.1 (price_read text at s))
+turn_line_is_read text at None h = none_at_here turn_key refl NumberOrNothing nothing_flat text at (is_turn_line (line_of (drop at text))) (tells_turn (drop at text) 0) h
 
 pub rule_line_is_read : RuleLineIsRead
 unfolding has after_lines
-rule_line_is_read text at (RuleLine.Value sweep next) h =
+rule_line_is_read text at (Some line) h =
     let s = (tells_rule (drop at text) 0).when_true h.0.good in
-    first_at rule_key refl RuleName rule_flat text at is_rule_line next _ h.0 s (rw h.1 (rule_said text at s h.0.good))
-rule_line_is_read text at RuleLine.Bad h = none_at_here rule_key refl RuleName rule_flat text at (is_rule_line (line_of (drop at text))) (tells_rule (drop at text) 0) h
+    first_at rule_key refl RuleName rule_flat text at is_rule_line line.next _ h.0 s (rw h.1 (rule_said text at s h.0.good))
+rule_line_is_read text at None h = none_at_here rule_key refl RuleName rule_flat text at (is_rule_line (line_of (drop at text))) (tells_rule (drop at text) 0) h
 
 pub tape_line_is_read : TapeLineIsRead
 unfolding has after_lines
-tape_line_is_read text (NameLine.Name end next) h =
+tape_line_is_read text (Some line) h =
     let s = (tells_tape text 0).when_true h.0.good in
     let is : value_text tape_key (line_of text) ≡ s.value = value_read tape_key refl text 0 Name s (name_flat s.value s.kind) in
-    let long : length (take (end - 5) (drop 5 text)) ≡ length s.value = ap length (h.1.name ∙ is) in
-    first_at tape_key refl Name name_flat text 0 is_tape_line next _ h.0 s
-    (s.kind, omega (arith, long, length-take (end - 5) (drop 5 text), length-drop 5 text, h.1.ordered, h.1.within))
-tape_line_is_read text NameLine.Bad h = none_at_here tape_key refl Name name_flat text 0 (is_tape_line (line_of text)) (tells_tape text 0) h
+    let long : length (take (line.end - 5) (drop 5 text)) ≡ length s.value = ap length (h.1.name ∙ is) in
+    first_at tape_key refl Name name_flat text 0 is_tape_line line.next _ h.0 s
+    (s.kind, omega (arith, long, length-take (line.end - 5) (drop 5 text), length-drop 5 text, h.1.ordered, h.1.within))
+tape_line_is_read text None h = none_at_here tape_key refl Name name_flat text 0 (is_tape_line (line_of text)) (tells_tape text 0) h
 
 -- Neighbours.
 one_on : (s l : ℕ) (starts lengths : List ℕ) → NeighboursOverlap starts lengths → NeighboursOverlap (s ∷ starts) (l ∷ lengths)

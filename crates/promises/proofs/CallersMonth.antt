@@ -25,7 +25,7 @@ use Rattle.answer_plan.specs.Recall.{run_checks, verdict_by}
 use Rattle.answer_outcome.specs.declared.Outcome.{Outcome}
 use Rattle.answer_outcome.specs.Outcomes.{name_in, planned_outcome, OutcomeOf}
 use Rattle.answer_outcome.proofs.Plans.{name_fits}
-use Rattle.answer_month.specs.declared.Part.TheVariants.{Sheet, Bad}
+use Rattle.std.specs.Prelude.{Some, Ok, Err}
 use Rattle.answer_month.specs.Month.{added}
 use Rattle.answer_month.specs.Parts.{is_count, count_of, part_of, input_verdict}
 use Rattle.demands.proofs.Letters.{numbers_are_texts}
@@ -41,17 +41,17 @@ use Rattle.promises.proofs.Callers.{longest_is_first, grows, outcome_is_added}
 pub sheet_is_added : SheetIsAdded
 sheet_is_added m bytes there sheet r h =
     record {
-      cut = λ l. let is = h.cut l in (ap (λ x. x.month) is, ap (λ x. x.whole) is);
+      cut = h.cut;
       there_all = λ l.
           let found = h.whole l in
-          let month : r.month ≡ added m found.0 = ap (λ x. x.month) found.1.1 in
           record {
             outcome = found.0;
             of_sheet = found.1.0;
             comes_to = sheets_come_to sheet found.0 found.1.0;
-            month = month;
-            more = rw month (outcome_is_added m found.0);
-            whole = ap (λ x. x.whole) found.1.1;
+            month = added m found.0;
+            is_added = refl;
+            more = outcome_is_added m found.0;
+            whole = found.1.1;
           };
     }
 
@@ -96,7 +96,7 @@ some_text : (text : List ℕ) → (text ≡ [] → ⊥) → is_empty text ≡ fa
 some_text [] n = absurd (n refl)
 some_text (b ∷ text) n = refl
 
-count_read : (bytes : ℕ) (line : List ℕ) → CountLine bytes line → count_of line ≡ Sheet bytes
+count_read : (bytes : ℕ) (line : List ℕ) → CountLine bytes line → count_of line ≡ Ok (Some bytes)
 count_read bytes line c =
     ap count_of c.is ∙ whole_count (decimal bytes) (decimal_without line_feed bytes refl) ∙ rw (decimal_number bytes c.word, decimal_value bytes) refl
 
@@ -109,7 +109,7 @@ count_there line e =
     let rest = empty_text (behind line_feed line) two.1 in
     (n.n, record { word = n.word; is = split_at line_feed line two.0 ∙ ap (λ t. before line_feed line ++ (line_feed ∷ t)) rest ∙ ap (λ t. t ++ (line_feed ∷ [])) n.is })
 
-count_missing : (line : List ℕ) → ((bytes : ℕ) → CountLine bytes line → ⊥) → count_of line ≡ Bad
+count_missing : (line : List ℕ) → ((bytes : ℕ) → CountLine bytes line → ⊥) → count_of line ≡ Err (record {})
 unfolding count_of
 count_missing line none =
     ⊎_elim

@@ -22,10 +22,11 @@ use Rattle.runs.proofs.Search.{first_same, any_same}
 use Rattle.runs.proofs.Entries.{length_list, entry_row}
 use Rattle.runs.proofs.Stops.{wanted_at}
 use Rattle.least.specs.AnyHead.{LeastAny}
-use Rattle.engine_table.specs.declared.Listed.{Listed}
+use Rattle.std.specs.Prelude.{Result}
+use Rattle.engine_stops.proofs.Said.{one_answer, same_verdict, same_number}
 use Rattle.engine_table.specs.Listing.{ListRows, Lists, room_size, short_list_rows, listing_verdict}
 use Rattle.engine_stops.proofs.Halves.{list_of_halves, half_long}
-use Rattle.demands.specs.RefusalTable.{none, here, later}
+use Rattle.demands.specs.RefusalTable.{FirstThatApplies, none, here, later}
 use Rattle.demands.specs.Demand1.{plan_order}
 use Rattle.demands.specs.Formed.{IsStop}
 use Rattle.demands.specs.AnyHead.{RunAppliesAny}
@@ -84,36 +85,34 @@ module _ (r : Run) (rows : ListRows) where
       (run_any_finds r (TableApplies r rows) (λ k p. TableApplies.run) (of_run_here ((tells_below most_wants (length r.starts)).when_false e))
       (ShortRow ∷ ShortRoom ∷ []) later-checks (λ a. later_find))
 
-  module _ (answer : Listed) (after : ListRows) (h : Lists r rows answer after) where
+  module _ (answer : Result ℕ Verdict) (after : ListRows) (h : Lists r rows answer after) where
     table_answers : (b : Bool) → refuses (first_of checks) ≡ b → TableAnswers r rows answer after
     unfolding listing_verdict
     table_answers true e =
         let p = h.refused e in
-        let never : answer.verdict.refusal ≡ Accepted → ⊥ = λ a. true≢false (sym e ∙ ap is_refusal (sym (ap (λ x. x.verdict.refusal) p.says) ∙ a)) in
         record {
           first = rw p.says (table_finds_here _ refl);
-          kept = λ n. (ap (λ x. x.detours) p.says, p.kept);
-          listed = λ a. absurd (never a);
-          cleared = λ a. absurd (never a);
+          kept = λ v said. (λ a. true≢false (sym e ∙ ap is_refusal (ap (λ x. x.refusal) (same_verdict (sym p.says ∙ said)) ∙ a)), p.kept);
+          listed = λ n said. one_answer (sym p.says ∙ said);
+          cleared = λ n said. one_answer (sym p.says ∙ said);
         }
     table_answers false e =
         let p = h.listed e in
         let long = half_long (λ d. d.from) p.list in
         let also = half_long (λ d. d.to) p.list in
-        let says : answer.verdict ≡ first_of checks = ap (λ x. x.verdict) p.says ∙ sym (none_refuses checks e) in
         record {
-          first = rw says (table_finds_here _ refl);
-          kept = λ n. absurd (n (ap (λ x. x.verdict.refusal) p.says));
-          listed = λ a.
+          first = rw p.says (subst (λ v. FirstThatApplies (TableApplies r rows) plan_order v.refusal v.place) (none_refuses checks e) (table_finds_here _ refl));
+          kept = λ v said. one_answer (sym said ∙ p.says);
+          listed = λ n said.
               record {
                 froms = map (λ d. d.from) p.list;
                 tos = map (λ d. d.to) p.list;
                 on = (long ∙ sym also, subst (LeastAny r) (sym (list_of_halves p.list)) p.least);
-                counted = ap (λ x. x.detours) p.says ∙ sym long;
+                counted = same_number (sym said ∙ p.says) ∙ sym long;
                 left = ap (λ x. x.froms) p.rows ∙ ap (λ n. map (λ d. d.from) p.list ++ drop n rows.froms) (sym long);
                 right = ap (λ x. x.tos) p.rows ∙ ap (λ n. map (λ d. d.to) p.list ++ drop n rows.tos) (sym also);
               };
-          cleared = λ a. ap (λ x. x.room) p.rows;
+          cleared = λ n said. ap (λ x. x.room) p.rows;
         }
 
 pub table_tells : TableTells

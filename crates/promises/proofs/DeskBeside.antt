@@ -7,6 +7,7 @@ use mathlib.Core.Logic.{⊎_elim}
 use lib.ListN.{length, take, drop, length-map}
 use lib.Seq.{take_at, drop-append_seam}
 use borrow.Author.Tests.{lt-ltb}
+use Rattle.std.specs.Prelude.{Option, Some, None}
 use Rattle.refusals.specs.declared.Refusal.TheVariants.{Accepted, ShortRow}
 use Rattle.refusals.specs.declared.Verdict.{Verdict}
 use Rattle.refusals.specs.Refusals.{is_refusal}
@@ -73,18 +74,18 @@ module _ (len : ℕ) (short : len < 32) (row : List Ticket) where
       ap (λ (x : BoardedRow). verdict_in x.boarded.answer) says ∙ short_records b.lasts
 
   -- An event, whose own refusal that is.
-  short_event : (tape : Tape) (l : Lasts) (room out : List ℕ) (e : Event) (r : Answered) (room' out' : List ℕ) → EventAnswered len tape (day_of row l) room out e r room' out'
-      → (e ≡ Event.Bad → ⊥) → r.verdict ≡ eight_at0
-  short_event tape l room out (Event.File o f c) r room' out' p some =
+  short_event : (tape : Tape) (l : Lasts) (room out : List ℕ) (e : Option Event) (r : Answered) (room' out' : List ℕ) → EventAnswered len tape (day_of row l) room out e r room' out'
+      → (e ≡ None → ⊥) → r.verdict ≡ eight_at0
+  short_event tape l room out (Some (Event.File o f c)) r room' out' p some =
       let is = short_filing (filing_at tape (day_of row l) o f c) in
       ap (λ (x : Answered). x.verdict) ((p.0 room).refused (ap refuses is)).says ∙ is
-  short_event tape l room out (Event.Withdraw o n) r room' out' p some =
+  short_event tape l room out (Some (Event.Withdraw o n)) r room' out' p some =
       let is = short_withdrawal (withdrawal_at (day_of row l) o n) in
       ap (λ (x : Answered). x.verdict) ((p.0 room).refused (ap refuses is)).says ∙ is
-  short_event tape l room out (Event.Board h t) r room' out' p some =
+  short_event tape l room out (Some (Event.Board h t)) r room' out' p some =
       let is = short_boarding tape _ _ p.rows p.done p.boards in
       ap (λ (x : Answered). x.verdict) (p.answers.refused (ap refuses is)).says ∙ is
-  short_event tape l room out Event.Bad r room' out' p some = absurd (some refl)
+  short_event tape l room out None r room' out' p some = absurd (some refl)
 
 short_call : {ts exit : List Ticket} {l m : Lasts} {c : Call} → LentFits ts l c exit m → length ts < 32 → verdict_of_call c ≡ eight_at0
 short_call {ts} (LentFits.lent_filing {f = f} last says writes) short = ap (λ x. x.verdict) says ∙ short_filing (length ts) short (table_in ts) f

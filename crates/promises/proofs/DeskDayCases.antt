@@ -5,6 +5,7 @@ use mathlib.Core.Bool.{true≢false}
 use mathlib.Core.List.{List, [], ◌∷◌, ◌++◌}
 use native.Mathlib.Omega.{arith}
 use lib.ListN.{length, drop, replicate, length-replicate}
+use Rattle.std.specs.Prelude.{Option, Some, None}
 use Rattle.refusals.specs.declared.Refusal.TheVariants.{Accepted, ShortRow, BadLine}
 use Rattle.refusals.specs.Refusals.{accepted, first_where}
 use Rattle.runs.specs.Run.{goes_on, first_member, last_within, want_stops, join_to, joined}
@@ -75,11 +76,11 @@ filing_line = bytes "file=1,1,1\n"
 abbrev remark : List ℕ
 remark = bytes "# a remark\n"
 
-line_read : event_of (line_of filing_line) ≡ Event.File 1 1 1
+line_read : event_of (line_of filing_line) ≡ Some (Event.File 1 1 1)
 unfolding event_of line_of is_triple_line is_triple is_pair is_number starts_with all_of value_from has before behind
 line_read = refl
 
-remark_read : event_of (line_of remark) ≡ Event.Bad
+remark_read : event_of (line_of remark) ≡ None
 unfolding event_of pair_event_of line_of is_triple_line is_pair_line is_triple is_pair is_number starts_with all_of value_from has before behind
 remark_read = refl
 
@@ -87,7 +88,7 @@ abbrev filed_day : desk.Day
 filed_day = record { row = alone 1 1; lasts = lasts 1 0 }
 
 -- A row of no byte: 8, and nothing has changed.
-pub short_row_met : EventAnswered 32 sheet_tape morning_day [] [] (Event.File 1 1 1) (refused_answer morning_day (record { refusal = ShortRow; place = 0 })) [] []
+pub short_row_met : EventAnswered 32 sheet_tape morning_day [] [] (Some (Event.File 1 1 1)) (refused_answer morning_day (record { refusal = ShortRow; place = 0 })) [] []
 unfolding first_where records_verdict tickets_in file_verdict file_row decimal_in
 short_row_met = (
   λ room. record {
@@ -99,7 +100,7 @@ short_row_met = (
   refl,
 )
 
-answered_filing : (room out : List ℕ) → 2677 ≤ length out → EventAnswered 32 sheet_tape morning_day room out (Event.File 1 1 1) (record { day = filed_day; verdict = accepted; bytes = 10 }) room (bytes "filed=1,1\n" ++ drop 10 out)
+answered_filing : (room out : List ℕ) → 2677 ≤ length out → EventAnswered 32 sheet_tape morning_day room out (Some (Event.File 1 1 1)) (record { day = filed_day; verdict = accepted; bytes = 10 }) room (bytes "filed=1,1\n" ++ drop 10 out)
 unfolding first_where records_verdict tickets_in file_verdict file_row decimal_in
 answered_filing room out takes = (
   λ space. record {
@@ -128,7 +129,7 @@ held_met =
       words = omega (arith, length-replicate {A = ℕ} 65600 0);
       bytes = omega (arith, length-replicate {A = ℕ} 2677 0);
       result = record { day = filed_day; verdict = accepted; bytes = 10 };
-      fits = subst (λ (e : Event). EventAnswered 32 sheet_tape morning_day (replicate 65600 0) (replicate 2677 0) e (record { day = filed_day; verdict = accepted; bytes = 10 }) (replicate 65600 0) (bytes "filed=1,1\n" ++ drop 10 (replicate 2677 0)))
+      fits = subst (λ (e : Option Event). EventAnswered 32 sheet_tape morning_day (replicate 65600 0) (replicate 2677 0) e (record { day = filed_day; verdict = accepted; bytes = 10 }) (replicate 65600 0) (bytes "filed=1,1\n" ++ drop 10 (replicate 2677 0)))
           (sym line_read) (answered_filing (replicate 65600 0) (replicate 2677 0) (omega (arith, length-replicate {A = ℕ} 2677 0)));
       says = refl;
       leaves = refl;
@@ -144,7 +145,7 @@ held_met =
       words = omega (arith, length-replicate {A = ℕ} 65600 0);
       bytes = omega (arith, length-replicate {A = ℕ} 2677 0);
       result = refused_answer filed_day (record { refusal = BadLine; place = 0 });
-      fits = subst (λ (e : Event). EventAnswered 32 sheet_tape filed_day (replicate 65600 0) (replicate 2677 0) e (refused_answer filed_day (record { refusal = BadLine; place = 0 })) (replicate 65600 0) (replicate 2677 0))
+      fits = subst (λ (e : Option Event). EventAnswered 32 sheet_tape filed_day (replicate 65600 0) (replicate 2677 0) e (refused_answer filed_day (record { refusal = BadLine; place = 0 })) (replicate 65600 0) (replicate 2677 0))
           (sym remark_read) (record { says = refl; same_room = refl; same_row = refl });
       says = refl;
       leaves = refl;
@@ -152,13 +153,13 @@ held_met =
     Held.ends)
 
 -- The first of them on a lent row of 32 records.
-on_the_row : event_of (line_of filing_line) ≡ Event.File 1 1 1 → LentAnswered morning_day.row (lasts 0 0) sheet_tape (replicate 65600 0) (replicate 2677 0) (event_of (line_of filing_line))
+on_the_row : event_of (line_of filing_line) ≡ Some (Event.File 1 1 1) → LentAnswered morning_day.row (lasts 0 0) sheet_tape (replicate 65600 0) (replicate 2677 0) (event_of (line_of filing_line))
     (record { lasts = lasts 1 0; verdict = accepted; bytes = 10 }) (alone 1 1) (replicate 65600 0) (bytes "filed=1,1\n" ++ drop 10 (replicate 2677 0))
 unfolding table_in with_table
 on_the_row is =
     record {
       answered = record { day = filed_day; verdict = accepted; bytes = 10 };
-      answers = subst (λ (e : Event). EventAnswered 32 sheet_tape morning_day (replicate 65600 0) (replicate 2677 0) e (record { day = filed_day; verdict = accepted; bytes = 10 }) (replicate 65600 0) (bytes "filed=1,1\n" ++ drop 10 (replicate 2677 0)))
+      answers = subst (λ (e : Option Event). EventAnswered 32 sheet_tape morning_day (replicate 65600 0) (replicate 2677 0) e (record { day = filed_day; verdict = accepted; bytes = 10 }) (replicate 65600 0) (bytes "filed=1,1\n" ++ drop 10 (replicate 2677 0)))
           (sym is) (answered_filing (replicate 65600 0) (replicate 2677 0) (omega (arith, length-replicate {A = ℕ} 2677 0)));
       whole = refl;
       says = refl;

@@ -9,6 +9,7 @@ use native.Mathlib.Omega.{arith}
 use native.Mathlib.Decide.{dec_lt}
 use lib.ListN.{length, drop}
 use borrow.Author.Tests.{le-ltb}
+use Rattle.std.specs.Prelude.{Option, Some, None}
 use Rattle.refusals.specs.declared.Refusal.{Refusal}
 use Rattle.refusals.specs.declared.Refusal.TheVariants.{Accepted, FileRows, BadFile, WantRows, BadWant, TooManyReads, TurnPrice, HeadPlace, ShortRow, ShortRoom, BadEntry, BadLine, LongSheet, BadName, BadRule, BadTicket, OfficeFull, NotWaiting, NumbersSpent, RetiredRule, BadText, ManyExtents, Overlap, FarFile, OverEightWants, BadSheetCount, BadRecord}
 use Rattle.refusals.specs.declared.Verdict.{Verdict}
@@ -121,12 +122,12 @@ module _ (day : desk.Day) (o : Outcome) (room out : List ℕ) (r : Answered) (ro
         kept_so_here d e p q = rw (p, q)
 
 pub refused_event_changes_nothing : RefusedEventChangesNothing
-refused_event_changes_nothing len tape day room out (Event.File o f c) r room' out' p some =
+refused_event_changes_nothing len tape day room out (Some (Event.File o f c)) r room' out' p some =
     let h = answer_keeps day _ room out r room out' (p.0 room) some in (h.0, p.1, h.2, h.3)
-refused_event_changes_nothing len tape day room out (Event.Withdraw o n) r room' out' p some =
+refused_event_changes_nothing len tape day room out (Some (Event.Withdraw o n)) r room' out' p some =
     let h = answer_keeps day _ room out r room out' (p.0 room) some in (h.0, p.1, h.2, h.3)
-refused_event_changes_nothing len tape day room out (Event.Board h t) r room' out' p some = answer_keeps day _ room out r room' out' p.answers some
-refused_event_changes_nothing len tape day room out Event.Bad r room' out' p some =
+refused_event_changes_nothing len tape day room out (Some (Event.Board h t)) r room' out' p some = answer_keeps day _ room out r room' out' p.answers some
+refused_event_changes_nothing len tape day room out None r room' out' p some =
     (ap (λ x. x.day) p.says, p.same_room, p.same_row, ap (λ x. x.bytes) p.says)
 
 -- The first that applies, applies.
@@ -187,23 +188,23 @@ module _ (len : ℕ) (tape : Tape) (row : List Ticket) (b : Boarding) (room : Li
       (true_or_false (refuses (records_verdict len row b.lasts)))
 
 pub row_takes_every_answer : RowTakesEveryAnswer
-row_takes_every_answer len tape day room out (Event.File o f c) r room' out' long takes p e =
+row_takes_every_answer len tape day room out (Some (Event.File o f c)) r room' out' long takes p e =
     let filing : Filing = record { office = o; file = f; count = c; files = length tape.starts; lasts = day.lasts } in
     never (filing_answers len day.row filing (file_row len day.row filing) refl) (λ q. filing_short long) (sym (own_verdict day _ room out r room out' (p.0 room) takes) ∙ e)
-row_takes_every_answer len tape day room out (Event.Withdraw o n) r room' out' long takes p e =
+row_takes_every_answer len tape day room out (Some (Event.Withdraw o n)) r room' out' long takes p e =
     let taken : Withdrawal = record { office = o; number = n; lasts = day.lasts } in
     never (withdrawal_answers len day.row taken (withdraw_row len day.row taken) refl) (λ q. withdrawal_short long) (sym (own_verdict day _ room out r room out' (p.0 room) takes) ∙ e)
-row_takes_every_answer len tape day room out (Event.Board h t) r room' out' long takes p e =
+row_takes_every_answer len tape day room out (Some (Event.Board h t)) r room' out' long takes p e =
     boarding_not_short len tape day.row _ room p.done p.rows p.boards long (sym (own_verdict day _ room out r room' out' p.answers takes) ∙ e)
-row_takes_every_answer len tape day room out Event.Bad r room' out' long takes p e =
+row_takes_every_answer len tape day room out None r room' out' long takes p e =
     let no : ◌≡◌ {A = ℕ} 11 8 = ap number_of (ap (λ x. x.verdict.refusal) (sym p.says) ∙ e) in omega arith
 
 -- One line: no event, and the day as it was; or a call.
-abbrev OneCall : Tape → Event → desk.Day → Exchange → desk.Day → Type 0
+abbrev OneCall : Tape → Option Event → desk.Day → Exchange → desk.Day → Type 0
 OneCall tape e day x next = (c : Call) × IsCall tape e c × (x.answer ≡ answered c) × Fits (kept_at day) c (kept_at next) × ((cs : List Call) → ForTape tape cs → ForTape tape (c ∷ cs))
 
 module _ (len : ℕ) (tape : Tape) (day next : desk.Day) (x : Exchange) (room room' out out' : List ℕ) (r : Answered) (takes : 2677 ≤ length out) (says : x.answer ≡ r.verdict.refusal) (leaves : next ≡ r.day) where
-  called : (e : Event) (o : Outcome) (c : Call) → IsCall tape e c → ((cs : List Call) → ForTape tape cs → ForTape tape (c ∷ cs)) → (space space' : List ℕ) → AnswersEvent day o space out r space' out' → o.verdict.refusal ≡ answered c
+  called : (e : Option Event) (o : Outcome) (c : Call) → IsCall tape e c → ((cs : List Call) → ForTape tape cs → ForTape tape (c ∷ cs)) → (space space' : List ℕ) → AnswersEvent day o space out r space' out' → o.verdict.refusal ≡ answered c
       → Fits (kept_at day) c (kept_at o.next) → OneCall tape e day x next
   called e o c is one space space' a same fits = (
     c,
@@ -213,17 +214,17 @@ module _ (len : ℕ) (tape : Tape) (day next : desk.Day) (x : Exchange) (room ro
     one,
   )
 
-  one_line : (e : Event) → EventAnswered len tape day room out e r room' out' → ((e ≡ Event.Bad) × (next ≡ day)) ⊎ OneCall tape e day x next
-  one_line (Event.File o f c) p =
+  one_line : (e : Option Event) → EventAnswered len tape day room out e r room' out' → ((e ≡ None) × (next ≡ day)) ⊎ OneCall tape e day x next
+  one_line (Some (Event.File o f c)) p =
       let filed : Filing = record { office = o; file = f; count = c; files = length tape.starts; lasts = day.lasts } in
-      inr (called (Event.File o f c) (filing_outcome filed (file_row len day.row filed) room) (filing len filed (file_row len day.row filed)) IsCall.a_filing (λ cs h. (refl, h)) room room (p.0 room) refl (Fits.files refl refl))
-  one_line (Event.Withdraw o n) p =
+      inr (called (Some (Event.File o f c)) (filing_outcome filed (file_row len day.row filed) room) (filing len filed (file_row len day.row filed)) IsCall.a_filing (λ cs h. (refl, h)) room room (p.0 room) refl (Fits.files refl refl))
+  one_line (Some (Event.Withdraw o n)) p =
       let taken : Withdrawal = record { office = o; number = n; lasts = day.lasts } in
-      inr (called (Event.Withdraw o n) (withdrawal_outcome taken (withdraw_row len day.row taken) room) (withdrawal len taken (withdraw_row len day.row taken)) IsCall.a_withdrawal (λ cs h. h) room room (p.0 room) refl (Fits.withdraws refl refl))
-  one_line (Event.Board h t) p =
+      inr (called (Some (Event.Withdraw o n)) (withdrawal_outcome taken (withdraw_row len day.row taken) room) (withdrawal len taken (withdraw_row len day.row taken)) IsCall.a_withdrawal (λ cs h. h) room room (p.0 room) refl (Fits.withdraws refl refl))
+  one_line (Some (Event.Board h t)) p =
       let b : Boarding = record { head = h; turn = t; lasts = day.lasts } in
-      inr (called (Event.Board h t) (boarding_outcome day.row p.done p.rows) (boarding len tape b (rows_lent room) p.rows p.done) IsCall.a_boarding (λ cs f. f) room room' p.answers refl (Fits.boards refl p.boards))
-  one_line Event.Bad p = inl (refl, leaves ∙ ap (λ y. y.day) p.says)
+      inr (called (Some (Event.Board h t)) (boarding_outcome day.row p.done p.rows) (boarding len tape b (rows_lent room) p.rows p.done) IsCall.a_boarding (λ cs f. f) room room' p.answers refl (Fits.boards refl p.boards))
+  one_line None p = inl (refl, leaves ∙ ap (λ y. y.day) p.says)
 
 record Calls (tape : Tape) (day : desk.Day) (xs : List Exchange) (last : desk.Day) : Type 0 where
   calls : List Call
@@ -238,7 +239,7 @@ held_so {tape} {day} {last} (Held.goes_on {next = next} {x = x} {xs = xs} t rest
     with_line : Calls tape next xs last → Calls tape day (x ∷ xs) last
     with_line more =
         ⊎_elim
-        (λ (h : (event_of (line_of x.line) ≡ Event.Bad) × (next ≡ day)).
+        (λ (h : (event_of (line_of x.line) ≡ None) × (next ≡ day)).
         record { calls = more.calls; are = AreCalls.no_event h.0 more.are; day_so = subst (λ (d : desk.Day). Day (kept_at d) more.calls (kept_at last)) h.1 more.day_so; one_tape = more.one_tape })
         (λ (h : OneCall tape (event_of (line_of x.line)) day x next).
         record { calls = h.0 ∷ more.calls; are = AreCalls.an_event h.1 h.2 more.are; day_so = Day.then h.3 more.day_so; one_tape = h.4 more.calls more.one_tape })
@@ -302,7 +303,7 @@ pub boards_at_the_desk : BoardsAtTheDesk
 boards_at_the_desk tape xs day next x head turn held t is rows_fit =
     let c = held_so held in
     let p : BoardingAnswered t.len tape day (record { head = head; turn = turn; lasts = day.lasts }) t.room t.out t.result t.room' t.out'
-    = subst (λ (e : Event). EventAnswered t.len tape day t.room t.out e t.result t.room' t.out') is t.fits in
+    = subst (λ (e : Option Event). EventAnswered t.len tape day t.room t.out e t.result t.room' t.out') is t.fits in
     subst (λ (kind : Refusal). AtTheDesk kind) (sym (t.says ∙ own_verdict day _ t.room t.out t.result t.room' t.out' p.answers t.bytes))
     (desk_kind t.len t.places tape (kept_at day) c.calls c.day_so c.one_tape rows_fit (record { head = head; turn = turn; lasts = day.lasts }) refl t.room t.words p.done p.rows p.boards)
 

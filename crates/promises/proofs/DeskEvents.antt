@@ -6,6 +6,7 @@ use mathlib.Core.List.{List}
 use native.Mathlib.Omega.{arith}
 use native.Mathlib.Decide.{dec_lt}
 use lib.ListN.{length, drop}
+use Rattle.std.specs.Prelude.{Option, Some, None}
 use Rattle.refusals.specs.declared.Refusal.TheVariants.{Accepted}
 use Rattle.refusals.specs.declared.Verdict.{Verdict}
 use Rattle.refusals.specs.Refusals.{is_refusal}
@@ -33,7 +34,7 @@ use Rattle.promises.proofs.DeskTells.{told_so, day_is}
 use Rattle.promises.proofs.DeskBeside.{short_rows_answered}
 
 module _ (tape : Tape) (day : desk.Day) (out : List ℕ) (r : Answered) (out' : List ℕ) (served : r.verdict.refusal ≡ Accepted) where
-  told_call : (e : Event) (o : Outcome) (c : Call) (room room' : List ℕ) → AnswersEvent day o room out r room' out' → IsCall tape e c → o.verdict.refusal ≡ answered c → Fits (kept_at day) c (kept_at o.next)
+  told_call : (e : Option Event) (o : Outcome) (c : Call) (room room' : List ℕ) → AnswersEvent day o room out r room' out' → IsCall tape e c → o.verdict.refusal ≡ answered c → Fits (kept_at day) c (kept_at o.next)
       → ItsCall tape e (kept_at day) (kept_at r.day)
   told_call e o c room room' a is same fits =
       record {
@@ -43,27 +44,27 @@ module _ (tape : Tape) (day : desk.Day) (out : List ℕ) (r : Answered) (out' : 
         fits = subst (λ (d : desk.Day). Fits (kept_at day) c (kept_at d)) (sym (day_is day o room out r room' out' a served)) fits;
       }
 
-not_none : (len : ℕ) (tape : Tape) (day : desk.Day) (room out : List ℕ) (e : Event) (r : Answered) (room' out' : List ℕ) → EventAnswered len tape day room out e r room' out' → r.verdict.refusal ≡ Accepted → e ≡ Event.Bad → ⊥
+not_none : (len : ℕ) (tape : Tape) (day : desk.Day) (room out : List ℕ) (e : Option Event) (r : Answered) (room' out' : List ℕ) → EventAnswered len tape day room out e r room' out' → r.verdict.refusal ≡ Accepted → e ≡ None → ⊥
 not_none len tape day room out e r room' out' p served is =
-    let none : EventAnswered len tape day room out Event.Bad r room' out' = subst (λ (x : Event). EventAnswered len tape day room out x r room' out') is p in
+    let none : EventAnswered len tape day room out None r room' out' = subst (λ (x : Option Event). EventAnswered len tape day room out x r room' out') is p in
     true≢false (ap is_refusal (ap (λ (x : Answered). x.verdict.refusal) (sym none.says) ∙ served))
 
 pub event_is_its_call : EventIsItsCall
-event_is_its_call len tape day room out (Event.File o f c) r room' out' p served =
+event_is_its_call len tape day room out (Some (Event.File o f c)) r room' out' p served =
     let g = filing_at tape day o f c in
     let done = file_row len day.row g in
-    told_call tape day out r out' served (Event.File o f c) (filing_outcome g done room) (filing len g done) room room (p.0 room) IsCall.a_filing refl (Fits.files refl refl)
-event_is_its_call len tape day room out (Event.Withdraw o n) r room' out' p served =
+    told_call tape day out r out' served (Some (Event.File o f c)) (filing_outcome g done room) (filing len g done) room room (p.0 room) IsCall.a_filing refl (Fits.files refl refl)
+event_is_its_call len tape day room out (Some (Event.Withdraw o n)) r room' out' p served =
     let w = withdrawal_at day o n in
     let done = withdraw_row len day.row w in
-    told_call tape day out r out' served (Event.Withdraw o n) (withdrawal_outcome w done room) (withdrawal len w done) room room (p.0 room) IsCall.a_withdrawal refl (Fits.withdraws refl refl)
-event_is_its_call len tape day room out (Event.Board h t) r room' out' p served =
-    told_call tape day out r out' served (Event.Board h t) (boarding_outcome day.row p.done p.rows) (boarding len tape (boarding_at day h t) (rows_lent room) p.rows p.done) room room' p.answers
+    told_call tape day out r out' served (Some (Event.Withdraw o n)) (withdrawal_outcome w done room) (withdrawal len w done) room room (p.0 room) IsCall.a_withdrawal refl (Fits.withdraws refl refl)
+event_is_its_call len tape day room out (Some (Event.Board h t)) r room' out' p served =
+    told_call tape day out r out' served (Some (Event.Board h t)) (boarding_outcome day.row p.done p.rows) (boarding len tape (boarding_at day h t) (rows_lent room) p.rows p.done) room room' p.answers
     IsCall.a_boarding refl (Fits.boards refl p.boards)
-event_is_its_call len tape day room out Event.Bad r room' out' p served = absurd (not_none len tape day room out Event.Bad r room' out' p served refl)
+event_is_its_call len tape day room out None r room' out' p served = absurd (not_none len tape day room out None r room' out' p served refl)
 
 -- A lent row in which an event is accepted has 32 places.
-row_long : (ts : List Ticket) (l : Lasts) (tape : Tape) (room out : List ℕ) (e : Event) (r : Told) (exit : List Ticket) (room' out' : List ℕ) → LentAnswered ts l tape room out e r exit room' out' → r.verdict.refusal ≡ Accepted → 32 ≤ length ts
+row_long : (ts : List Ticket) (l : Lasts) (tape : Tape) (room out : List ℕ) (e : Option Event) (r : Told) (exit : List Ticket) (room' out' : List ℕ) → LentAnswered ts l tape room out e r exit room' out' → r.verdict.refusal ≡ Accepted → 32 ≤ length ts
 row_long ts l tape room out e r exit room' out' f served =
     elim (dec_lt (length ts) 32) [
       | yes short ↦

@@ -8,6 +8,7 @@ use native.Mathlib.Omega.{arith}
 use lib.ListN.{length}
 use lib.Dec.{ltb}
 use borrow.Author.Tests.{le-ltb}
+use Rattle.std.specs.Prelude.{Option, Some, None}
 use Rattle.refusals.specs.declared.Refusal.{Refusal}
 use Rattle.refusals.specs.declared.Refusal.TheVariants.{Accepted}
 use Rattle.refusals.specs.Refusals.{is_refusal, accepted}
@@ -170,18 +171,18 @@ boarded_so day done rows = settled_as day (boarding_outcome day.row done (in_roo
 -- So the day and the line decide the answer.
 module _ (tape : Tape) (day : desk.Day) (len len₂ : ℕ) (room room₂ out out₂ room' room₂' out' out₂' : List ℕ) (r s : Answered)
     (places : 32 ≤ len) (places₂ : 32 ≤ len₂) (long : 65600 ≤ length room) (long₂ : 65600 ≤ length room₂) (takes : 2677 ≤ length out) (takes₂ : 2677 ≤ length out₂) where
-  answered_alike : (e : Event) → EventAnswered len tape day room out e r room' out' → EventAnswered len₂ tape day room₂ out₂ e s room₂' out₂' → r ≡ s
-  answered_alike (Event.File o f c) p q =
+  answered_alike : (e : Option Event) → EventAnswered len tape day room out e r room' out' → EventAnswered len₂ tape day room₂ out₂ e s room₂' out₂' → r ≡ s
+  answered_alike (Some (Event.File o f c)) p q =
       let filing : Filing = record { office = o; file = f; count = c; files = length tape.starts; lasts = day.lasts } in
       settled_as_lem day (filing_outcome filing (file_row len day.row filing) []) [] out r [] out' (p.0 []) takes
       ∙ ap (λ x. settled_as day (filing_outcome filing x [])) (files_alike len len₂ day.row filing places places₂)
       ∙ sym (settled_as_lem day (filing_outcome filing (file_row len₂ day.row filing) []) [] out₂ s [] out₂' (q.0 []) takes₂)
-  answered_alike (Event.Withdraw o n) p q =
+  answered_alike (Some (Event.Withdraw o n)) p q =
       let w : Withdrawal = record { office = o; number = n; lasts = day.lasts } in
       settled_as_lem day (withdrawal_outcome w (withdraw_row len day.row w) []) [] out r [] out' (p.0 []) takes
       ∙ ap (λ x. settled_as day (withdrawal_outcome w x [])) (withdraws_alike len len₂ day.row w places places₂)
       ∙ sym (settled_as_lem day (withdrawal_outcome w (withdraw_row len₂ day.row w) []) [] out₂ s [] out₂' (q.0 []) takes₂)
-  answered_alike (Event.Board h t) p q =
+  answered_alike (Some (Event.Board h t)) p q =
       let b : Boarding = record { head = h; turn = t; lasts = day.lasts } in
       let e = boards_alike tape day.row b room room₂ long long₂ len len₂ places places₂ p.done q.done p.rows q.rows p.boards q.boards in
       let x : r ≡ boarded_so day p.done p.rows = settled_as_lem day _ room out r room' out' p.answers takes in
@@ -190,7 +191,7 @@ module _ (tape : Tape) (day : desk.Day) (len len₂ : ℕ) (room room₂ out out
       ∙ ap (λ (d : BoardedRow). settled_as day (boarding_outcome day.row d (in_room p.rows []))) e.0
       ∙ ap (λ (z : Rows). settled_as day (boarding_outcome day.row q.done z)) e.1
       ∙ sym y
-  answered_alike Event.Bad p q = p.says ∙ sym q.says
+  answered_alike None p q = p.says ∙ sym q.says
 
 turned_alike : (tape : Tape) (day next next₂ : desk.Day) (x y : Exchange) → Turned tape day x next → Turned tape day y next₂ → y.line ≡ x.line → (next₂ ≡ next) × (y ≡ x)
 turned_alike tape day next next₂ x y t u same =

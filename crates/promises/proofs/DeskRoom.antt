@@ -4,6 +4,7 @@ use mathlib.Core.Path.{◌≡◌, sym, ap, subst, ◌∙◌}
 use mathlib.Core.Bool.{true≢false}
 use mathlib.Core.List.{List}
 use lib.ListN.{length}
+use Rattle.std.specs.Prelude.{Some, None}
 use Rattle.refusals.specs.declared.Refusal.TheVariants.{Accepted}
 use Rattle.refusals.specs.Refusals.{is_refusal}
 use Rattle.runs.specs.Run.{stops_of}
@@ -48,14 +49,14 @@ module _ (len : ℕ) (tape : Tape) (row : List Ticket) (b : Boarding) (before af
       record { stops = length (stops_of run); are = stops; left = boarded_behind.room (length (stops_of run)) stops }
 
 pub event_leaves_the_room : EventLeavesTheRoom
-event_leaves_the_room len tape day room out (Event.File o f c) r room' out' p served = p.1
-event_leaves_the_room len tape day room out (Event.Withdraw o n) r room' out' p served = p.1
-event_leaves_the_room len tape day room out (Event.Board head turn) r room' out' p served =
+event_leaves_the_room len tape day room out (Some (Event.File o f c)) r room' out' p served = p.1
+event_leaves_the_room len tape day room out (Some (Event.Withdraw o n)) r room' out' p served = p.1
+event_leaves_the_room len tape day room out (Some (Event.Board head turn)) r room' out' p served =
     let told = told_so day _ room out r room' out' p.answers served in
     let b = boarding_at day head turn in
     subst (RoomOfPlan (board_run tape day.row b) room) (sym told.2.left)
     (room_of_plan len tape day.row b (rows_lent room) p.rows p.done p.boards (accepts p.done.boarded.answer.refusal told.0))
-event_leaves_the_room len tape day room out Event.Bad r room' out' p served =
+event_leaves_the_room len tape day room out None r room' out' p served =
     absurd (true≢false (ap is_refusal (ap (λ (x : Answered). x.verdict.refusal) (sym p.says) ∙ served)))
 
 -- So on a lent row, and by the program.

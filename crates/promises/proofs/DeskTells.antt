@@ -9,6 +9,7 @@ use native.Mathlib.Decide.{dec_lt}
 use lib.Dec.{eqb}
 use lib.ListN.{length, get_or, take, drop}
 use lib.Seq.{take-append_seam, drop-append_seam}
+use Rattle.std.specs.Prelude.{Option, Some, None}
 use Rattle.refusals.specs.declared.Refusal.TheVariants.{Accepted}
 use Rattle.refusals.specs.Refusals.{is_refusal}
 use Rattle.refusals.proofs.Verdicts.{refuses}
@@ -71,7 +72,7 @@ module _ (day : desk.Day) (o : Outcome) (room out : List ℕ) (r : Answered) (ro
       ∙ drop-append_seam o.text (drop (length o.text) out)
       ∙ ap (λ (n : ℕ). drop n out) (sym bytes_are)
 
-  stands : (len : ℕ) (tape : Tape) (e : Event) → 0 < length o.text → EventTold len tape day room e r.day (take r.bytes out') → TextStands len tape day room out e r.day r.bytes out'
+  stands : (len : ℕ) (tape : Tape) (e : Option Event) → 0 < length o.text → EventTold len tape day room e r.day (take r.bytes out') → TextStands len tape day room out e r.day r.bytes out'
   stands len tape e some text =
       record {
         some = omega (arith, some, bytes_are);
@@ -125,23 +126,23 @@ some_bytes : (row : List Ticket) (done : BoardedRow) (after : Rows) → 0 < leng
 some_bytes row done after = let e = ap length (text_so row done after) in omega (arith, e)
 
 pub accepted_event_tells : AcceptedEventTells
-accepted_event_tells len tape day room out (Event.File o f c) r room' out' p served =
+accepted_event_tells len tape day room out (Some (Event.File o f c)) r room' out' p served =
     let filed : Filing = record { office = o; file = f; count = c; files = length tape.starts; lasts = day.lasts } in
     let number = filed_number len day.row filed (told_so day _ room out r room out' (p.0 room) served).0 in
-    stands day _ room out r room out' (p.0 room) served len tape (Event.File o f c) (omega arith)
+    stands day _ room out r room out' (p.0 room) served len tape (Some (Event.File o f c)) (omega arith)
     (record {
       number = (file_row len day.row filed).filed.number;
       counts = number.0;
       last = ap (λ (d : desk.Day). last_of o d.lasts) (day_is day _ room out r room out' (p.0 room) served) ∙ number.1 ∙ sym number.0;
       line = text_is_here day _ room out r room out' (p.0 room) served;
     })
-accepted_event_tells len tape day room out (Event.Withdraw o n) r room' out' p served =
-    stands day _ room out r room out' (p.0 room) served len tape (Event.Withdraw o n) (omega arith) (text_is_here day _ room out r room out' (p.0 room) served)
-accepted_event_tells len tape day room out (Event.Board head turn) r room' out' p served =
+accepted_event_tells len tape day room out (Some (Event.Withdraw o n)) r room' out' p served =
+    stands day _ room out r room out' (p.0 room) served len tape (Some (Event.Withdraw o n)) (omega arith) (text_is_here day _ room out r room out' (p.0 room) served)
+accepted_event_tells len tape day room out (Some (Event.Board head turn)) r room' out' p served =
     let done = p.done in
     let after = p.rows in
     let yes = accepts done.boarded.answer.refusal (told_so day _ room out r room' out' p.answers served).0 in
-    stands day _ room out r room' out' p.answers served len tape (Event.Board head turn) (some_bytes day.row done after)
+    stands day _ room out r room' out' p.answers served len tape (Some (Event.Board head turn)) (some_bytes day.row done after)
     (record {
       done = done;
       after = after;
@@ -153,5 +154,5 @@ accepted_event_tells len tape day room out (Event.Board head turn) r room' out' 
           (λ i l. tickets_have_wants len tape day.row (boarding_at day head turn) (rows_lent room) after done i p.boards yes l);
       lines = text_is_here day _ room out r room' out' p.answers served ∙ text_so day.row done after;
     })
-accepted_event_tells len tape day room out Event.Bad r room' out' p served =
+accepted_event_tells len tape day room out None r room' out' p served =
     absurd (true≢false (ap is_refusal (ap (λ (x : Answered). x.verdict.refusal) (sym p.says) ∙ served)))

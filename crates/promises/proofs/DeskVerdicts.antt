@@ -7,6 +7,7 @@ use mathlib.Core.Logic.{⊎_elim, ◌⊎◌, inl, inr}
 use native.Mathlib.Omega.{arith}
 use native.Mathlib.Decide.{dec_lt}
 use lib.ListN.{length, take, drop, replicate, length-replicate}
+use Rattle.std.specs.Prelude.{Option, Some, None}
 use Rattle.refusals.specs.declared.Refusal.{Refusal}
 use Rattle.refusals.specs.declared.Refusal.TheVariants.{Accepted}
 use Rattle.refusals.specs.declared.Verdict.{Verdict}
@@ -66,7 +67,7 @@ module _ (len : ℕ) (tape : Tape) (day : desk.Day) (wide : List ℕ) (takes : 2
         told = λ _ _. record { says = refl; left = refl; handed = refl };
       }
 
-  own_or_short : AcceptedEventTells → (e : Event) → OwnVerdict len tape day room e o.verdict → (is_refusal o.verdict.refusal ≡ false → o.verdict.place ≡ 0)
+  own_or_short : AcceptedEventTells → (e : Option Event) → OwnVerdict len tape day room e o.verdict → (is_refusal o.verdict.refusal ≡ false → o.verdict.place ≡ 0)
       → (is_refusal o.verdict.refusal ≡ false → EventAnswered len tape day room wide e (told_as o) o.left (handed_as o wide))
       → OwnVerdict len tape day room e r.verdict ⊎ RowTooShort len tape day room out e r.verdict
   own_or_short tells e own at-0 there =
@@ -103,28 +104,28 @@ boarding_at_0 len tape row b before done after fits n =
     (true_or_false (refuses (records_verdict len row b.lasts)))
 
 -- A line that is no event.
-no_event_so : (len : ℕ) (tape : Tape) (day : desk.Day) (room out : List ℕ) (r : Answered) (room' out' : List ℕ) → EventAnswered len tape day room out Event.Bad r room' out'
-    → OwnVerdict len tape day room Event.Bad r.verdict
+no_event_so : (len : ℕ) (tape : Tape) (day : desk.Day) (room out : List ℕ) (r : Answered) (room' out' : List ℕ) → EventAnswered len tape day room out None r room' out'
+    → OwnVerdict len tape day room None r.verdict
 no_event_so len tape day room out r room' out' p = (ap (λ (x : Answered). x.verdict.refusal) p.says, ap (λ (x : Answered). x.verdict.place) p.says)
 
 verdict_by_lem : (wide : List ℕ) → 2677 ≤ length wide → EventVerdicts
-verdict_by_lem wide takes len tape day room out (Event.File o f c) r room' out' p =
+verdict_by_lem wide takes len tape day room out (Some (Event.File o f c)) r room' out' p =
     let filing = filing_at tape day o f c in
     let own = filing_answers len day.row filing (file_row len day.row filing) refl in
-    own_or_short len tape day wide takes _ room out r room out' (p.0 room) accepted_event_tells (Event.File o f c) own (none_at_0 own (refl, (refl, (refl, (refl, (refl, tt))))))
+    own_or_short len tape day wide takes _ room out r room out' (p.0 room) accepted_event_tells (Some (Event.File o f c)) own (none_at_0 own (refl, (refl, (refl, (refl, (refl, tt))))))
     (λ n. (λ space. told_there len tape day wide takes _ space out r space out' (p.0 space) n, refl))
-verdict_by_lem wide takes len tape day room out (Event.Withdraw o m) r room' out' p =
+verdict_by_lem wide takes len tape day room out (Some (Event.Withdraw o m)) r room' out' p =
     let taken = withdrawal_at day o m in
     let own = withdrawal_answers len day.row taken (withdraw_row len day.row taken) refl in
-    own_or_short len tape day wide takes _ room out r room out' (p.0 room) accepted_event_tells (Event.Withdraw o m) own (none_at_0 own (refl, (refl, (refl, tt))))
+    own_or_short len tape day wide takes _ room out r room out' (p.0 room) accepted_event_tells (Some (Event.Withdraw o m)) own (none_at_0 own (refl, (refl, (refl, tt))))
     (λ n. (λ space. told_there len tape day wide takes _ space out r space out' (p.0 space) n, refl))
-verdict_by_lem wide takes len tape day room out (Event.Board h t) r room' out' p =
+verdict_by_lem wide takes len tape day room out (Some (Event.Board h t)) r room' out' p =
     let b = boarding_at day h t in
     let found = boarding_answers len tape day.row b (rows_lent room) p.rows p.done p.boards in
-    own_or_short len tape day wide takes _ room out r room' out' p.answers accepted_event_tells (Event.Board h t) (record { of_the_row = found.records; of_the_run = found.run })
+    own_or_short len tape day wide takes _ room out r room' out' p.answers accepted_event_tells (Some (Event.Board h t)) (record { of_the_row = found.records; of_the_run = found.run })
     (boarding_at_0 len tape day.row b (rows_lent room) p.done p.rows p.boards)
     (λ n. record { done = p.done; rows = p.rows; boards = p.boards; answers = told_there len tape day wide takes _ room out r room' out' p.answers n })
-verdict_by_lem wide takes len tape day room out Event.Bad r room' out' p = inl (no_event_so len tape day room out r room' out' p)
+verdict_by_lem wide takes len tape day room out None r room' out' p = inl (no_event_so len tape day room out r room' out' p)
 
 pub event_verdicts : EventVerdicts
 event_verdicts = verdict_by_lem (replicate 2677 0) (omega (arith, length-replicate {A = ℕ} 2677 0))

@@ -5,6 +5,7 @@ use mathlib.Core.Bool.{true≢false}
 use mathlib.Core.List.{List, [], ◌∷◌, ◌++◌}
 use native.Mathlib.Omega.{arith}
 use lib.ListN.{length, drop, replicate}
+use Rattle.std.specs.Prelude.{Option, Some}
 use Rattle.refusals.specs.declared.Refusal.TheVariants.{Accepted}
 use Rattle.refusals.specs.Refusals.{is_refusal, accepted, first_where}
 use Rattle.runs.specs.Alone.{zeros}
@@ -55,13 +56,13 @@ told_here day o room out next room' text served day_is left_is text_is few takes
     }
 
 -- A line that holds an event.
-held_so : (row next : List Ticket) (l m : Lasts) (line room out room' text : List ℕ) (e : Event) → event_of (line_of line) ≡ e
+held_so : (row next : List Ticket) (l m : Lasts) (line room out room' text : List ℕ) (e : Option Event) → event_of (line_of line) ≡ e
     → EventAnswered 32 sheet_tape (day_of row l) room out e (record { day = day_of next m; verdict = accepted; bytes = length text }) room' (text ++ drop (length text) out)
     → HeldAnswered row l sheet_tape room out (event_of (line_of line)) (record { row = next; told = record { lasts = m; verdict = accepted; bytes = length text } }) room' (text ++ drop (length text) out)
 held_so row next l m line room out room' text e is a =
     record {
       held = record { day = day_of next m; verdict = accepted; bytes = length text };
-      answers = subst (λ (x : Event). EventAnswered 32 sheet_tape (day_of row l) room out x (record { day = day_of next m; verdict = accepted; bytes = length text }) room' (text ++ drop (length text) out)) (sym is) a;
+      answers = subst (λ (x : Option Event). EventAnswered 32 sheet_tape (day_of row l) room out x (record { day = day_of next m; verdict = accepted; bytes = length text }) room' (text ++ drop (length text) out)) (sym is) a;
       says = refl;
     }
 
@@ -111,9 +112,9 @@ fourth_filed : FilesSo day3 2 1 5 day4 (bytes "filed=2,2\n")
 unfolding first_where records_verdict tickets_in file_verdict file_row decimal_in
 fourth_filed room = (refl, refl, refl, refl)
 
-filing_told : (day next : desk.Day) (office file count : ℕ) (line text : List ℕ) → event_of (line_of line) ≡ Event.File office file count → FilesSo day office file count next text → length text ≤ 2677 → Accepts day line next (replicate 54 7) text
+filing_told : (day next : desk.Day) (office file count : ℕ) (line text : List ℕ) → event_of (line_of line) ≡ Some (Event.File office file count) → FilesSo day office file count next text → length text ≤ 2677 → Accepts day line next (replicate 54 7) text
 filing_told day next office file count line text is files few out takes =
-    held_so day.row next.row day.lasts next.lasts line (replicate 54 7) out (replicate 54 7) text (Event.File office file count) is (
+    held_so day.row next.row day.lasts next.lasts line (replicate 54 7) out (replicate 54 7) text (Some (Event.File office file count)) is (
       λ room. let h = files room in told_here (day_of day.row day.lasts) (filing_outcome (filing_at day office file count) (file_row 32 day.row (filing_at day office file count)) room) room out (day_of next.row next.lasts) room text h.0 h.1 h.2 h.3 few takes,
       refl,
     )
@@ -154,21 +155,21 @@ boarded_text_lem : boarded_bytes ≡ boarded_so.text
 unfolding boarded_text boarded_top closed_lines place_in pair_lines decimal_in tickets_in
 boarded_text_lem = refl
 
-lines_read : (event_of (line_of (bytes "file=1,1,1\n")) ≡ Event.File 1 1 1) × (event_of (line_of (bytes "file=1,2,3\n")) ≡ Event.File 1 2 3) × (event_of (line_of (bytes "file=2,3,1\n")) ≡ Event.File 2 3 1)
-    × (event_of (line_of (bytes "file=2,1,5\n")) ≡ Event.File 2 1 5) × (event_of (line_of (bytes "withdraw=2,2\n")) ≡ Event.Withdraw 2 2) × (event_of (line_of (bytes "board=60,1\n")) ≡ Event.Board 60 1)
+lines_read : (event_of (line_of (bytes "file=1,1,1\n")) ≡ Some (Event.File 1 1 1)) × (event_of (line_of (bytes "file=1,2,3\n")) ≡ Some (Event.File 1 2 3)) × (event_of (line_of (bytes "file=2,3,1\n")) ≡ Some (Event.File 2 3 1))
+    × (event_of (line_of (bytes "file=2,1,5\n")) ≡ Some (Event.File 2 1 5)) × (event_of (line_of (bytes "withdraw=2,2\n")) ≡ Some (Event.Withdraw 2 2)) × (event_of (line_of (bytes "board=60,1\n")) ≡ Some (Event.Board 60 1))
 unfolding event_of pair_event_of line_of is_triple_line is_pair_line is_triple is_pair is_number starts_with all_of value_from has before behind
 lines_read = (refl, refl, refl, refl, refl, refl)
 
 withdrawal_told : Accepts day4 (bytes "withdraw=2,2\n") day5 (replicate 54 7) (bytes "withdrawn=2,2\n")
 withdrawal_told out takes =
-    held_so day4.row day5.row (lasts 2 2) (lasts 2 2) (bytes "withdraw=2,2\n") (replicate 54 7) out (replicate 54 7) (bytes "withdrawn=2,2\n") (Event.Withdraw 2 2) lines_read.4 (
+    held_so day4.row day5.row (lasts 2 2) (lasts 2 2) (bytes "withdraw=2,2\n") (replicate 54 7) out (replicate 54 7) (bytes "withdrawn=2,2\n") (Some (Event.Withdraw 2 2)) lines_read.4 (
       λ room. let h = withdrawn_so_lem room in told_here day4 (withdrawn_so room) room out day5 room (bytes "withdrawn=2,2\n") h.0 h.1 h.2 h.3 (omega arith) takes,
       refl,
     )
 
 boarding_told : Accepts day5 (bytes "board=60,1\n") day6 (zeros 54) boarded_bytes
 boarding_told out takes =
-    held_so day5.row day6.row (lasts 2 2) (lasts 2 2) (bytes "board=60,1\n") (replicate 54 7) out (zeros 54) boarded_bytes (Event.Board 60 1) lines_read.5
+    held_so day5.row day6.row (lasts 2 2) (lasts 2 2) (bytes "board=60,1\n") (replicate 54 7) out (zeros 54) boarded_bytes (Some (Event.Board 60 1)) lines_read.5
     (record { done = done; rows = sheet_after; boards = boarded; answers = told_here day5 boarded_so (replicate 54 7) out day6 (zeros 54) boarded_bytes refl refl refl boarded_text_lem (omega arith) takes })
 
 pub worked_day : WorkedDay

@@ -21,6 +21,7 @@ use Rattle.walk.specs.AnyHead.{priced_any_answer}
 use Rattle.walk.proofs.Places.{place_most, AllNear, first_near, if_near, judge_near}
 use Rattle.planner.specs.Plan.{room_for}
 use Rattle.text_bytes.specs.Text.{line_feed, is_empty, is_text, has, before, behind, is_name}
+use Rattle.std.specs.Prelude.{Option, Some, None}
 use Rattle.text_inputs.specs.declared.Framed.{Framed}
 use Rattle.text_inputs.specs.Inputs.{part_in}
 use Rattle.text_lines.specs.Lines.{line_of, line_after, after_lines, is_number_line, is_pair_line, is_triple_line, first_bad_of, first_in}
@@ -180,15 +181,15 @@ price_held sheet list = go (refuses (pricing_verdict head_anywhere sheet list)) 
 bad_held : (length (refusal_text bad_input) ≤ 38) × (0 < length (refusal_text bad_input))
 bad_held = (refusal_short bad_input (omega arith), some_begun (refusal_text bad_input) 113 (refusal_begins bad_input))
 
-price_in : (input : List ℕ) (f : Framed) (row : List ℕ) (n : ℕ) (row' : List ℕ) → AnsweredIn SheetPriced input f row n row' → Held price_row row n row'
-price_in input (Framed.Sheet from to) row n row' a = let h = price_held (part_in input from to) (part_in input to (length input)) in record { text = price_text head_anywhere (pricing_verdict head_anywhere (part_in input from to) (part_in input to (length input))) (sheet_name (part_in input from to)) (sheet_run (part_in input from to)) (part_in input to (length input)); bytes = a.bytes; left = a.left; short = h.0; some = h.1 }
-price_in input Framed.Bad row n row' a = record { text = refusal_text bad_input; bytes = a.bytes; left = a.left; short = omega (arith, bad_held.0); some = bad_held.1 }
+price_in : (input : List ℕ) (f : Option Framed) (row : List ℕ) (n : ℕ) (row' : List ℕ) → AnsweredIn SheetPriced input f row n row' → Held price_row row n row'
+price_in input (Some place) row n row' a = let h = price_held (part_in input place.from place.to) (part_in input place.to (length input)) in record { text = price_text head_anywhere (pricing_verdict head_anywhere (part_in input place.from place.to) (part_in input place.to (length input))) (sheet_name (part_in input place.from place.to)) (sheet_run (part_in input place.from place.to)) (part_in input place.to (length input)); bytes = a.bytes; left = a.left; short = h.0; some = h.1 }
+price_in input None row n row' a = record { text = refusal_text bad_input; bytes = a.bytes; left = a.left; short = omega (arith, bad_held.0); some = bad_held.1 }
 
-price_same : (input : List ℕ) (f : Framed) (row : List ℕ) (n : ℕ) (row' other : List ℕ) (m : ℕ) (other' : List ℕ) (a : AnsweredIn SheetPriced input f row n row') (b : AnsweredIn SheetPriced input f other m other')
+price_same : (input : List ℕ) (f : Option Framed) (row : List ℕ) (n : ℕ) (row' other : List ℕ) (m : ℕ) (other' : List ℕ) (a : AnsweredIn SheetPriced input f row n row') (b : AnsweredIn SheetPriced input f other m other')
     → (price_in input f row n row' a).text ≡ (price_in input f other m other' b).text
 unfolding price_in
-price_same input (Framed.Sheet from to) row n row' other m other' a b = refl
-price_same input Framed.Bad row n row' other m other' a b = refl
+price_same input (Some place) row n row' other m other' a b = refl
+price_same input None row n row' other m other' a b = refl
 
 pub price_is_whole : PriceIsWhole
 price_is_whole input = takes_all price_row (price_in input (framed_input input)) (price_same input (framed_input input))
@@ -329,15 +330,15 @@ module _ (room : List ℕ) where
   abbrev Gives : List ℕ → List ℕ → List ℕ → ℕ → List ℕ → Type 0
   Gives = CheckGiven head_anywhere (length room)
 
-  check_in : (input : List ℕ) (f : Framed) (row : List ℕ) (n : ℕ) (row' : List ℕ) → AnsweredIn Gives input f row n row' → Held check_row row n row'
-  check_in input (Framed.Sheet from to) row n row' a = let h = check_fits (length room) (part_in input from to) (part_in input to (length input)) a.text a.answers in record { text = a.text; bytes = a.holds.bytes; left = a.holds.left; short = h.0; some = h.1 }
-  check_in input Framed.Bad row n row' a = record { text = refusal_text bad_input; bytes = a.bytes; left = a.left; short = omega (arith, bad_held.0); some = bad_held.1 }
+  check_in : (input : List ℕ) (f : Option Framed) (row : List ℕ) (n : ℕ) (row' : List ℕ) → AnsweredIn Gives input f row n row' → Held check_row row n row'
+  check_in input (Some place) row n row' a = let h = check_fits (length room) (part_in input place.from place.to) (part_in input place.to (length input)) a.text a.answers in record { text = a.text; bytes = a.holds.bytes; left = a.holds.left; short = h.0; some = h.1 }
+  check_in input None row n row' a = record { text = refusal_text bad_input; bytes = a.bytes; left = a.left; short = omega (arith, bad_held.0); some = bad_held.1 }
 
-  check_same : (input : List ℕ) (f : Framed) (row : List ℕ) (n : ℕ) (row' other : List ℕ) (m : ℕ) (other' : List ℕ) (a : AnsweredIn Gives input f row n row') (b : AnsweredIn Gives input f other m other')
+  check_same : (input : List ℕ) (f : Option Framed) (row : List ℕ) (n : ℕ) (row' other : List ℕ) (m : ℕ) (other' : List ℕ) (a : AnsweredIn Gives input f row n row') (b : AnsweredIn Gives input f other m other')
       → (check_in input f row n row' a).text ≡ (check_in input f other m other' b).text
   unfolding check_in
-  check_same input (Framed.Sheet from to) row n row' other m other' a b = answer_once head_anywhere one_least _ _ _ _ _ _ a.text b.text a.answers b.answers
-  check_same input Framed.Bad row n row' other m other' a b = refl
+  check_same input (Some place) row n row' other m other' a b = answer_once head_anywhere one_least _ _ _ _ _ _ a.text b.text a.answers b.answers
+  check_same input None row n row' other m other' a b = refl
 
 pub check_is_whole : CheckIsWhole
 check_is_whole input room =

@@ -19,7 +19,7 @@ use Rattle.text_bytes.proofs.Bytes.{and_true_both}
 use Rattle.text_bytes.proofs.Decimals.{decimal_without, decimal_number, decimal_value}
 use Rattle.text_bytes.proofs.Split.{has_here, before_here, behind_here, split_at}
 use Rattle.text_lines.specs.Lines.{line_of}
-use Rattle.text_inputs.specs.declared.Framed.{Framed}
+use Rattle.std.specs.Prelude.{Some, None}
 use Rattle.text_inputs.specs.Inputs.{framed, framed_behind, part_in}
 use Rattle.text_inputs.proofs.Parts.{part_there, whole_sheet, cut_sheet, no_sheet}
 use Rattle.text_pages.proofs.Pages.{decimal_short}
@@ -103,7 +103,7 @@ module _ (input sheet text : List ℕ) (c : Counts input (length sheet) (sheet +
       ∙ ap (take (length input - end)) behind_sheet_here
       ∙ take_all (length input - end) text (omega (arith, whole))
 
-  framed_so : framed_input input ≡ Framed.Sheet start end
+  framed_so : framed_input input ≡ Some (record { from = start; to = end })
   framed_so =
       let cut = leb most_input (length input) in
       framed_there input (length sheet) (sheet ++ text) c cut ∙ sym (whole_sheet start (length sheet) (length (sheet ++ text)) cut (omega (arith, length-append sheet text)))
@@ -145,7 +145,7 @@ begins_counted input e = go (has line_feed input) refl
         record { is = split_at line_feed input h ∙ ap (λ t. t ++ (line_feed ∷ behind line_feed input)) (sym line ∙ sym (number_text (line_of input) e)); small = below_word (line_of input) e }
     go false h = absurd (nothing_no_number (rw h at e))
 
-framed_bad : (input : List ℕ) → NoTwoTexts input → framed_input input ≡ Framed.Bad
+framed_bad : (input : List ℕ) → NoTwoTexts input → framed_input input ≡ None
 unfolding framed
 framed_bad input (NoTwoTexts.no_count none) =
     ⊎_elim (λ (e : is_number (line_of input) ≡ true). absurd (none (value_of (line_of input)) (behind line_feed input) (begins_counted input e))) (λ (e : is_number (line_of input) ≡ false). rw e) (true_or_false (is_number (line_of input)))
@@ -197,7 +197,7 @@ checked_long words sheet plan l row n row' h wide =
     held_printed h.text (bytes "refused=12\nplace=0\n") row n row' h.holds (h.answers.refused (ap refuses v) ∙ ap refusal_text v ∙ lines_of_12) wide
 
 module _ (input : List ℕ) (count : ℕ) (rest : List ℕ) (c : Counts input count rest) (few : length rest < count) (all : 32791 ≤ length input) where
-  cut_so : framed_input input ≡ Framed.Sheet (length (decimal count) + 1) (length (decimal count) + 1 + length rest)
+  cut_so : framed_input input ≡ Some (record { from = length (decimal count) + 1; to = length (decimal count) + 1 + length rest })
   cut_so = framed_there input count rest c (leb most_input (length input)) ∙ sym (cut_sheet (length (decimal count) + 1) count (length rest) (leb most_input (length input)) few (le-leb most_input (length input) all))
 
   long : 16384 < length rest

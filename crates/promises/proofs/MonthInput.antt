@@ -25,9 +25,8 @@ use Rattle.answer_plan.specs.Recall.{verdict_by, recall_verdict}
 use Rattle.answer_outcome.specs.declared.Outcome.{Outcome}
 use Rattle.answer_outcome.specs.Outcomes.{refused_outcome, OutcomeOf}
 use Rattle.answer_month.specs.declared.Month.{Month}
-use Rattle.answer_month.specs.declared.Part.{Part}
-use Rattle.answer_month.specs.declared.Part.TheVariants.{End, Sheet, Bad}
-use Rattle.answer_month.specs.declared.Added.{Added}
+use Rattle.std.specs.Prelude.{Option, Some, None, Result, Ok, Err}
+use Rattle.answer_month.specs.declared.BadPart.{BadPart}
 use Rattle.answer_month.specs.Month.{grown, empty_month, with_refused, with_totals, named_by, with_longest, added, added_all}
 use Rattle.answer_month.specs.Parts.{is_count, count_of, part_of, SheetAdded, input_verdict}
 use Rattle.promises.specs.Months.{Outcomes, is_whole, divided, line_held, rest_of, kept_of, ReadsOn, at_end, no_part, cut_short, one_more, MonthFigures, MonthOfInput, PartByPart}
@@ -74,17 +73,17 @@ none_in_front c zero text e = refl
 none_in_front c (suc n) [] e = refl
 none_in_front c (suc n) (b ∷ text) e = let both = or_false_both (eqb b c) (has c text) e in rw (both.0, none_in_front c n text both.1) refl
 
-no_count : (line : List ℕ) → has line_feed line ≡ false → count_of line ≡ Bad
+no_count : (line : List ℕ) → has line_feed line ≡ false → count_of line ≡ Err (record {})
 unfolding count_of is_count
 no_count line e = rw e refl
 
-pub whole_count : (front : List ℕ) → has line_feed front ≡ false → count_of (front ++ (line_feed ∷ [])) ≡ cond (is_number front) (Sheet (value_of front)) Bad
+pub whole_count : (front : List ℕ) → has line_feed front ≡ false → count_of (front ++ (line_feed ∷ [])) ≡ cond (is_number front) (Ok (Some (value_of front))) (Err (record {}))
 unfolding count_of is_count
 whole_count front e = rw (has_here line_feed front [], behind_here line_feed front [] e, before_here line_feed front [] e) refl
 
 -- What the line that is held shows: the same as the whole input.
 pub record Shown (input : List ℕ) : Type 0 where
-  pub line : count_of (line_held input) ≡ cond (has line_feed input && is_number (before line_feed input)) (Sheet (value_of (before line_feed input))) Bad
+  pub line : count_of (line_held input) ≡ cond (has line_feed input && is_number (before line_feed input)) (Ok (Some (value_of (before line_feed input)))) (Err (record {}))
   pub rest : (has line_feed input && is_number (before line_feed input)) ≡ true → rest_of input ≡ behind line_feed input
 
 module _ (input : List ℕ) where
@@ -200,7 +199,7 @@ module _ (m : Month) (n : ℕ) (count : m.sheets + n ≡ 1000) (b : ℕ) (bytes 
   input = b ∷ bytes
 
   -- What part_of says of some input.
-  part_is : part_of m.sheets (line_held (b ∷ bytes)) ≡ cond (leb 1000 m.sheets) Bad (count_of (line_held (b ∷ bytes)))
+  part_is : part_of m.sheets (line_held (b ∷ bytes)) ≡ cond (leb 1000 m.sheets) (Err (record {})) (count_of (line_held (b ∷ bytes)))
   unfolding part_of
   part_is = rw (held_some b bytes) refl
 
@@ -211,38 +210,38 @@ module _ (m : Month) (n : ℕ) (count : m.sheets + n ≡ 1000) (b : ℕ) (bytes 
   counts : Bool
   counts = has line_feed (b ∷ bytes) && is_number (before line_feed (b ∷ bytes))
 
-  part_some : (n ≡ 0 → ⊥) → part_of m.sheets (line_held (b ∷ bytes)) ≡ cond counts (Sheet (value_of (before line_feed (b ∷ bytes)))) Bad
+  part_some : (n ≡ 0 → ⊥) → part_of m.sheets (line_held (b ∷ bytes)) ≡ cond counts (Ok (Some (value_of (before line_feed (b ∷ bytes))))) (Err (record {}))
   unfolding counts
   part_some some = part_is ∙ rw (lt-leb 1000 m.sheets (omega (arith, some))) (shown (b ∷ bytes)).line
 
-  part_full : n ≡ 0 → part_of m.sheets (line_held (b ∷ bytes)) ≡ Bad
+  part_full : n ≡ 0 → part_of m.sheets (line_held (b ∷ bytes)) ≡ Err (record {})
   part_full e = part_is ∙ rw (le-leb 1000 m.sheets (omega arith)) refl
 
   not_whole : counts ≡ false → is_whole (b ∷ bytes) ≡ false
   unfolding counts
   not_whole e = rw e refl
 
-  never_ends : part_of m.sheets (line_held (b ∷ bytes)) ≡ End → ⊥
+  never_ends : part_of m.sheets (line_held (b ∷ bytes)) ≡ Ok None → ⊥
   never_ends e = by_cases (dec_le n 0) (λ z. different (part_full (omega arith))) (λ z. go counts refl (λ q. omega (arith, z, q)))
     where
-      different : part_of m.sheets (line_held (b ∷ bytes)) ≡ Bad → ⊥
+      different : part_of m.sheets (line_held (b ∷ bytes)) ≡ Err (record {}) → ⊥
       different q = let z : ◌≡◌ {A = ℕ} 0 1 = cc in omega arith
 
-      other : (k : ℕ) → part_of m.sheets (line_held (b ∷ bytes)) ≡ Sheet k → ⊥
+      other : (k : ℕ) → part_of m.sheets (line_held (b ∷ bytes)) ≡ Ok (Some k) → ⊥
       other k q = let z : ◌≡◌ {A = ℕ} 0 1 = cc in omega arith
 
       go : (c : Bool) → counts ≡ c → (n ≡ 0 → ⊥) → ⊥
-      go true q some = other _ (part_some some ∙ ap (λ x. cond x (Sheet (value_of (before line_feed (b ∷ bytes)))) Bad) q)
-      go false q some = different (part_some some ∙ ap (λ x. cond x (Sheet (value_of (before line_feed (b ∷ bytes)))) Bad) q)
+      go true q some = other _ (part_some some ∙ ap (λ x. cond x (Ok (Some (value_of (before line_feed (b ∷ bytes))))) (Err (record {}))) q)
+      go false q some = different (part_some some ∙ ap (λ x. cond x (Ok (Some (value_of (before line_feed (b ∷ bytes))))) (Err (record {}))) q)
 
-  bad_divides : part_of m.sheets (line_held (b ∷ bytes)) ≡ Bad → divided n (b ∷ bytes) ≡ record { sheets = []; good = false }
+  bad_divides : part_of m.sheets (line_held (b ∷ bytes)) ≡ Err (record {}) → divided n (b ∷ bytes) ≡ record { sheets = []; good = false }
   bad_divides e = by_cases (dec_le n 0) (λ z. full (omega arith)) (λ z. go counts refl (λ q. omega (arith, z, q)))
     where
-      other : (k : ℕ) → part_of m.sheets (line_held (b ∷ bytes)) ≡ Sheet k → ⊥
+      other : (k : ℕ) → part_of m.sheets (line_held (b ∷ bytes)) ≡ Ok (Some k) → ⊥
       other k q = let z : ◌≡◌ {A = ℕ} 0 1 = cc in omega arith
 
       go : (c : Bool) → counts ≡ c → (n ≡ 0 → ⊥) → divided n (b ∷ bytes) ≡ record { sheets = []; good = false }
-      go true q some = absurd (other _ (part_some some ∙ ap (λ x. cond x (Sheet (value_of (before line_feed (b ∷ bytes)))) Bad) q))
+      go true q some = absurd (other _ (part_some some ∙ ap (λ x. cond x (Ok (Some (value_of (before line_feed (b ∷ bytes))))) (Err (record {}))) q))
       go false q some = none_after n b bytes some (not_whole q)
 
   -- A byte count.
@@ -252,14 +251,14 @@ module _ (m : Month) (n : ℕ) (count : m.sheets + n ≡ 1000) (b : ℕ) (bytes 
     value : value_of (before line_feed (b ∷ bytes)) ≡ k
     rest : rest_of (b ∷ bytes) ≡ behind line_feed (b ∷ bytes)
 
-  counted : (k : ℕ) → part_of m.sheets (line_held (b ∷ bytes)) ≡ Sheet k → Counted k
+  counted : (k : ℕ) → part_of m.sheets (line_held (b ∷ bytes)) ≡ Ok (Some k) → Counted k
   unfolding counts
   counted k e = by_cases (dec_le n 0) (λ z. absurd (bad (part_full (omega arith)))) (λ z. go counts refl (λ q. omega (arith, z, q)))
     where
-      bad : part_of m.sheets (line_held (b ∷ bytes)) ≡ Bad → ⊥
+      bad : part_of m.sheets (line_held (b ∷ bytes)) ≡ Err (record {}) → ⊥
       bad q = let z : ◌≡◌ {A = ℕ} 0 1 = cc in omega arith
 
-      same : (j : ℕ) → part_of m.sheets (line_held (b ∷ bytes)) ≡ Sheet j → j ≡ k
+      same : (j : ℕ) → part_of m.sheets (line_held (b ∷ bytes)) ≡ Ok (Some j) → j ≡ k
       same j q = cc
 
       go : (c : Bool) → counts ≡ c → (n ≡ 0 → ⊥) → Counted k
@@ -267,23 +266,23 @@ module _ (m : Month) (n : ℕ) (count : m.sheets + n ≡ 1000) (b : ℕ) (bytes 
           record {
             some = some;
             number = q;
-            value = same _ (part_some some ∙ ap (λ x. cond x (Sheet (value_of (before line_feed (b ∷ bytes)))) Bad) q);
+            value = same _ (part_some some ∙ ap (λ x. cond x (Ok (Some (value_of (before line_feed (b ∷ bytes))))) (Err (record {}))) q);
             rest = (shown (b ∷ bytes)).rest q;
           }
-      go false q some = absurd (bad (part_some some ∙ ap (λ x. cond x (Sheet (value_of (before line_feed (b ∷ bytes)))) Bad) q))
+      go false q some = absurd (bad (part_some some ∙ ap (λ x. cond x (Ok (Some (value_of (before line_feed (b ∷ bytes))))) (Err (record {}))) q))
 
 -- Each way that reading can go.
-ends_to : (m : Month) (n : ℕ) → m.sheets + n ≡ 1000 → (input : List ℕ) → part_of m.sheets (line_held input) ≡ End → ReadTo m n input m true
+ends_to : (m : Month) (n : ℕ) → m.sheets + n ≡ 1000 → (input : List ℕ) → part_of m.sheets (line_held input) ≡ Ok None → ReadTo m n input m true
 unfolding divided
 ends_to m zero count [] e = read_none m 0 [] true refl
 ends_to m (suc n) count [] e = read_none m (suc n) [] true refl
 ends_to m n count (b ∷ bytes) e = absurd (never_ends m n count b bytes e)
 
-nothing_is_end : (s : ℕ) → part_of s (line_held []) ≡ End
+nothing_is_end : (s : ℕ) → part_of s (line_held []) ≡ Ok None
 unfolding part_of has
 nothing_is_end s = refl
 
-bad_to : (m : Month) (n : ℕ) → m.sheets + n ≡ 1000 → (input : List ℕ) → part_of m.sheets (line_held input) ≡ Bad → ReadTo m n input m false
+bad_to : (m : Month) (n : ℕ) → m.sheets + n ≡ 1000 → (input : List ℕ) → part_of m.sheets (line_held input) ≡ Err (record {}) → ReadTo m n input m false
 bad_to m n count [] e = let z : ◌≡◌ {A = ℕ} 0 1 = cc (nothing_is_end m.sheets) in absurd (omega arith)
 bad_to m n count (b ∷ bytes) e = read_none m n (b ∷ bytes) false (bad_divides m n count b bytes e)
 
@@ -294,21 +293,20 @@ there_short k rest l = omega (arith, l, length-take k rest)
 there_whole : (k : ℕ) (rest : List ℕ) → k ≤ length (take k rest) → k ≤ length rest
 there_whole k rest l = omega (arith, l, length-take k rest)
 
-module _ (m : Month) (n : ℕ) (count : m.sheets + n ≡ 1000) (k : ℕ) (r : Added) where
-  cut_to : (input : List ℕ) → part_of m.sheets (line_held input) ≡ Sheet k → SheetAdded m k (length (take k (rest_of input))) (kept_of k (rest_of input)) r → r.whole ≡ false
-      → ReadTo m n input r.month false
+module _ (m : Month) (n : ℕ) (count : m.sheets + n ≡ 1000) (k : ℕ) where
+  cut_to : (input : List ℕ) → part_of m.sheets (line_held input) ≡ Ok (Some k) → SheetAdded m k (length (take k (rest_of input))) (kept_of k (rest_of input)) (Err (record { month = m }))
+      → ReadTo m n input m false
   unfolding counts
-  cut_to [] e h w = let z : ◌≡◌ {A = ℕ} 0 1 = cc (nothing_is_end m.sheets) in absurd (omega arith)
-  cut_to (b ∷ bytes) e h w =
+  cut_to [] e h = let z : ◌≡◌ {A = ℕ} 0 1 = cc (nothing_is_end m.sheets) in absurd (omega arith)
+  cut_to (b ∷ bytes) e h =
       by_cases (dec_le k (length (take k (rest_of (b ∷ bytes)))))
-      (λ l. absurd (true≢false (sym (ap (λ x. x.whole) (h.whole l).1.1) ∙ w)))
+      (λ l. let whole = (h.whole l).1.1 in let z : ◌≡◌ {A = ℕ} 0 1 = cc in absurd (omega arith))
       (λ l.
       let c = counted m n count b bytes k e in
       let short : length (take k (rest_of (b ∷ bytes))) < k = omega arith in
       let few : length (behind line_feed (b ∷ bytes)) < value_of (before line_feed (b ∷ bytes)) = omega (arith, there_short k (rest_of (b ∷ bytes)) short, ap length c.rest, c.value) in
       let part : is_whole (b ∷ bytes) ≡ false = rw (c.number, lt-leb (value_of (before line_feed (b ∷ bytes))) (length (behind line_feed (b ∷ bytes))) few) refl in
-      let same : r.month ≡ m = ap (λ x. x.month) (h.cut short) in
-      subst (λ x. ReadTo m n (b ∷ bytes) x false) (sym same) (read_none m n (b ∷ bytes) false (none_after n b bytes c.some part)))
+      read_none m n (b ∷ bytes) false (none_after n b bytes c.some part))
 
 more_divides : (n b : ℕ) (bytes : List ℕ) (k : ℕ) → is_whole (b ∷ bytes) ≡ true → value_of (before line_feed (b ∷ bytes)) ≡ k
     → ((divided (suc n) (b ∷ bytes)).sheets ≡ take k (behind line_feed (b ∷ bytes)) ∷ (divided n (drop k (behind line_feed (b ∷ bytes)))).sheets)
@@ -319,25 +317,25 @@ more_divides n b bytes k e v = (
   rw e (ap (λ x. (divided n (drop x (behind line_feed (b ∷ bytes)))).good) v),
 )
 
-module _ (m : Month) (k : ℕ) (r : Added) (m' : Month) (good : Bool) where
-  joined_to : (n : ℕ) (b : ℕ) (bytes : List ℕ) (o : Outcome) → OutcomeOf (take k (behind line_feed (b ∷ bytes))) o → r.month ≡ added m o → is_whole (b ∷ bytes) ≡ true → value_of (before line_feed (b ∷ bytes)) ≡ k
-      → ReadTo r.month n (drop k (behind line_feed (b ∷ bytes))) m' good → ReadTo m (suc n) (b ∷ bytes) m' good
+module _ (m : Month) (k : ℕ) (next m' : Month) (good : Bool) where
+  joined_to : (n : ℕ) (b : ℕ) (bytes : List ℕ) (o : Outcome) → OutcomeOf (take k (behind line_feed (b ∷ bytes))) o → next ≡ added m o → is_whole (b ∷ bytes) ≡ true → value_of (before line_feed (b ∷ bytes)) ≡ k
+      → ReadTo next n (drop k (behind line_feed (b ∷ bytes))) m' good → ReadTo m (suc n) (b ∷ bytes) m' good
   unfolding added_all
-  joined_to n b bytes o p next whole v t =
+  joined_to n b bytes o p next_is whole v t =
       let d = more_divides n b bytes k whole v in
       record {
         runs = o ∷ t.runs;
         outcomes = subst (λ l. Outcomes l (o ∷ t.runs)) (sym d.0) (p, t.outcomes);
-        month = t.month ∙ ap (λ x. added_all x t.runs) next;
+        month = t.month ∙ ap (λ x. added_all x t.runs) next_is;
         whole = t.whole ∙ sym d.1;
       }
 
-  more_to : (n : ℕ) → m.sheets + n ≡ 1000 → (input : List ℕ) → part_of m.sheets (line_held input) ≡ Sheet k → SheetAdded m k (length (take k (rest_of input))) (kept_of k (rest_of input)) r → r.whole ≡ true
-      → ((n' : ℕ) → r.month.sheets + n' ≡ 1000 → ReadTo r.month n' (drop k (rest_of input)) m' good) → ReadTo m n input m' good
+  more_to : (n : ℕ) → m.sheets + n ≡ 1000 → (input : List ℕ) → part_of m.sheets (line_held input) ≡ Ok (Some k) → SheetAdded m k (length (take k (rest_of input))) (kept_of k (rest_of input)) (Ok next)
+      → ((n' : ℕ) → next.sheets + n' ≡ 1000 → ReadTo next n' (drop k (rest_of input)) m' good) → ReadTo m n input m' good
   unfolding counts
-  more_to n count [] e h w rest = let z : ◌≡◌ {A = ℕ} 0 1 = cc (nothing_is_end m.sheets) in absurd (omega arith)
-  more_to zero count (b ∷ bytes) e h w rest = absurd ((counted m 0 count b bytes k e).some refl)
-  more_to (suc n) count (b ∷ bytes) e h w rest =
+  more_to n count [] e h rest = let z : ◌≡◌ {A = ℕ} 0 1 = cc (nothing_is_end m.sheets) in absurd (omega arith)
+  more_to zero count (b ∷ bytes) e h rest = absurd ((counted m 0 count b bytes k e).some refl)
+  more_to (suc n) count (b ∷ bytes) e h rest =
       by_cases (dec_le k (length (take k (rest_of (b ∷ bytes)))))
       (λ l.
       let c = counted m (suc n) count b bytes k e in
@@ -345,17 +343,18 @@ module _ (m : Month) (k : ℕ) (r : Added) (m' : Month) (good : Bool) where
       let enough : value_of (before line_feed (b ∷ bytes)) ≤ length (behind line_feed (b ∷ bytes)) = omega (arith, all, ap length c.rest, c.value) in
       let whole : is_whole (b ∷ bytes) ≡ true = rw (c.number, le-leb (value_of (before line_feed (b ∷ bytes))) (length (behind line_feed (b ∷ bytes))) enough) refl in
       let o = (h.whole l).0 in
-      let next : r.month ≡ added m o = ap (λ x. x.month) (h.whole l).1.1 in
+      let whole_is = (h.whole l).1.1 in
+      let next_is : next ≡ added m o = cc in
       let p : OutcomeOf (take k (behind line_feed (b ∷ bytes))) o = subst (λ x. OutcomeOf (take k x) o) c.rest (kept_outcome (take k (rest_of (b ∷ bytes))) o (h.whole l).1.0) in
-      let later = rest n (ap (λ x. x.sheets + n) next ∙ omega (arith, one_more_sheet m o (omega arith))) in
-      joined_to n b bytes o p next whole c.value (subst (λ x. ReadTo r.month n (drop k x) m' good) c.rest later))
-      (λ l. absurd (true≢false (sym w ∙ ap (λ x. x.whole) (h.cut (omega arith)))))
+      let later = rest n (ap (λ x. x.sheets + n) next_is ∙ omega (arith, one_more_sheet m o (omega arith))) in
+      joined_to n b bytes o p next_is whole c.value (subst (λ x. ReadTo next n (drop k x) m' good) c.rest later))
+      (λ l. let cut = h.cut (omega arith) in let z : ◌≡◌ {A = ℕ} 0 1 = cc in absurd (omega arith))
 
 reads_on : {m : Month} {input : List ℕ} {m' : Month} {good : Bool} → ReadsOn m input m' good → (n : ℕ) → m.sheets + n ≡ 1000 → ReadTo m n input m' good
 reads_on (at_end {m} {input} e) n count = ends_to m n count input e
 reads_on (no_part {m} {input} e) n count = bad_to m n count input e
-reads_on (cut_short {m} {input} {bytes} {r} e h w) n count = cut_to m n count bytes r input e h w
-reads_on (one_more {m} {m'} {input} {bytes} {r} {good} e h w rest) n count = more_to m bytes r m' good n count input e h w (λ left c. reads_on rest left c)
+reads_on (cut_short {m} {input} {bytes} e h) n count = cut_to m n count bytes input e h
+reads_on (one_more {m} {next} {m'} {input} {bytes} {good} e h rest) n count = more_to m bytes next m' good n count input e h (λ left c. reads_on rest left c)
 
 few_sheets : (n : ℕ) (input : List ℕ) → length (divided n input).sheets ≤ n
 unfolding divided

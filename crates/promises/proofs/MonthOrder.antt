@@ -7,6 +7,7 @@ use mathlib.Core.Logic.{◌⊎◌, inl, inr, by_cases}
 use mathlib.Core.List.{List, [], ◌∷◌, ◌++◌}
 use native.Mathlib.Omega.{arith}
 use native.Mathlib.Decide.{dec_lt}
+use Rattle.std.specs.Prelude.{Ok}
 use lib.ListN.{length}
 use lib.Dec.{eqb}
 use borrow.Author.Tests.{eq-eqb}
@@ -181,4 +182,4 @@ one_sheet_more m bytes there sheet r s p q =
     (λ n.
     let a = p.whole (omega arith) in
     let b = q.whole (omega arith) in
-    a.1.1 ∙ ap (λ o. record { month = added m o; whole = true }) (outcome_once sheet a.0 b.0 a.1.0 b.1.0) ∙ sym b.1.1)
+    a.1.1 ∙ ap (λ o. Ok (added m o)) (outcome_once sheet a.0 b.0 a.1.0 b.1.0) ∙ sym b.1.1)

@@ -19,8 +19,8 @@ use Rattle.answer_plan.specs.Recall.{recall_verdict}
 use Rattle.answer_outcome.specs.declared.Outcome.{Outcome}
 use Rattle.answer_outcome.specs.Outcomes.{refused_outcome, planned_outcome, OutcomeOf}
 use Rattle.answer_month.specs.declared.Month.{Month}
-use Rattle.answer_month.specs.declared.Part.{Part}
-use Rattle.answer_month.specs.declared.Part.TheVariants.{End, Sheet, Bad}
+use Rattle.std.specs.Prelude.{Option, Some, None, Result, Ok, Err}
+use Rattle.answer_month.specs.declared.BadPart.{BadPart}
 use Rattle.answer_month.specs.Month.{empty_month, added}
 use Rattle.answer_month.specs.Parts.{part_of}
 use Rattle.promises.specs.Months.{line_held, rest_of, kept_of, ReadsOn, at_end, no_part, cut_short, one_more, EveryInputIsRead}
@@ -48,36 +48,36 @@ abbrev Read : Month → List ℕ → Type 0
 Read m input = (last : Month) × ((good : Bool) × ReadsOn m input last good)
 
 -- Behind 1,000 sheets no line is a sheet's.
-few_sheets : (sheets : ℕ) (line : List ℕ) (n : ℕ) → part_of sheets line ≡ Sheet n → sheets < 1000
+few_sheets : (sheets : ℕ) (line : List ℕ) (n : ℕ) → part_of sheets line ≡ Ok (Some n) → sheets < 1000
 unfolding part_of
 few_sheets sheets line n e =
     by_cases (dec_lt sheets 1000) (λ l. l) (λ l. absurd (none (is_empty line) (rw (le-leb 1000 sheets (omega arith)) at e)))
   where
-    is_sheet : Part → Bool
-    is_sheet End = false
-    is_sheet Bad = false
-    is_sheet (Sheet m) = true
+    is_sheet : Result (Option ℕ) BadPart → Bool
+    is_sheet (Ok None) = false
+    is_sheet (Ok (Some m)) = true
+    is_sheet (Err e) = false
 
-    none : (b : Bool) → cond b End Bad ≡ Sheet n → ⊥
+    none : (b : Bool) → cond {A = Result (Option ℕ) BadPart} b (Ok None) (Err (record {})) ≡ Ok (Some n) → ⊥
     none true q = true≢false (sym (ap is_sheet q))
     none false q = true≢false (sym (ap is_sheet q))
 
 -- A sheet of so many bytes: added, or cut short.
 module _ (m : Month) (input : List ℕ) (next : (o : Outcome) → m.sheets < 1000 → (rest : List ℕ) → Read (added m o) rest) where
-  sheet_read_here : (n : ℕ) → part_of m.sheets (line_held input) ≡ Sheet n → Read m input
+  sheet_read_here : (n : ℕ) → part_of m.sheets (line_held input) ≡ Ok (Some n) → Read m input
   sheet_read_here n e =
       let there = length (take n (rest_of input)) in
       let o = outcome_for (kept_of n (rest_of input)) in
       by_cases (dec_lt there n)
-      (λ l. (m, (false, cut_short {r = record { month = m; whole = false }} e (record { cut = λ h. refl; whole = λ h. absurd (omega arith) }) refl)))
+      (λ l. (m, (false, cut_short e (record { cut = λ h. refl; whole = λ h. absurd (omega arith) }))))
       (λ l.
       let more = next o.0 (few_sheets m.sheets (line_held input) n e) (drop n (rest_of input)) in
-      (more.0, (more.1.0, one_more {r = record { month = added m o.0; whole = true }} e (record { cut = λ h. absurd (omega arith); whole = λ h. (o.0, (o.1, refl)) }) refl more.1.1)))
+      (more.0, (more.1.0, one_more e (record { cut = λ h. absurd (omega arith); whole = λ h. (o.0, (o.1, refl)) }) more.1.1)))
 
-  part_read : (p : Part) → part_of m.sheets (line_held input) ≡ p → Read m input
-  part_read End e = (m, (true, at_end e))
-  part_read Bad e = (m, (false, no_part e))
-  part_read (Sheet n) e = sheet_read_here n e
+  part_read : (p : Result (Option ℕ) BadPart) → part_of m.sheets (line_held input) ≡ p → Read m input
+  part_read (Ok None) e = (m, (true, at_end e))
+  part_read (Ok (Some n)) e = sheet_read_here n e
+  part_read (Err b) e = (m, (false, no_part e))
 
 -- From a month that has room for so many sheets more.
 read_on : (k : ℕ) (m : Month) (input : List ℕ) → 1000 ≤ m.sheets + k → Read m input

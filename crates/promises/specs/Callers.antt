@@ -1,14 +1,13 @@
 -- Functions for a caller in Rattle that other functions go by, each by conditions of its own: what is handed out for a verdict, a run judged with its head anywhere, stops
 -- joined in four rows, the longest of some times, and a month with one outcome more.
-use Rattle.std.specs.Prelude.{ℕ, ◌+◌, ◌-◌, ◌^◌, ◌≤◌, ◌<◌, ◌≡◌, true, false, ◌⊎◌, ◌↔◌, List, [], ◌∷◌, ◌++◌, length, get_or, drop}
+use Rattle.std.specs.Prelude.{ℕ, Result, Ok, Err, ◌+◌, ◌-◌, ◌^◌, ◌≤◌, ◌<◌, ◌≡◌, true, false, ◌⊎◌, ◌↔◌, List, [], ◌∷◌, ◌++◌, length, get_or, drop}
 use Rattle.refusals.specs.declared.Refusal.{Refusal}
 use Rattle.refusals.specs.declared.Refusal.TheVariants.{Accepted, FileRows, BadFile, WantRows, BadWant, TooManyReads, TurnPrice, HeadPlace, ShortRow}
 use Rattle.refusals.specs.declared.Verdict.{Verdict}
-use Rattle.refusals.specs.Refusals.{number_of, is_refusal}
+use Rattle.refusals.specs.Refusals.{number_of, is_refusal, accepted}
 use Rattle.runs.specs.Run.{Run, Stop, stops_of}
 use Rattle.runs.specs.Rows.{stop_at}
 use Rattle.runs.specs.AnyHead.{judge_any_of}
-use Rattle.engine_stops.specs.declared.Joined.{Joined}
 use Rattle.engine_stops.specs.Joining.{JoinRows, join_answer, join_rows_of}
 use Rattle.sheet_reader.specs.Sheet.{sheet_run}
 use Rattle.sheet_writer.specs.declared.Written.{Written}
@@ -66,16 +65,21 @@ pub record StopsInRows (stops : List Stop) (before after : JoinRows) : Type 0 wh
   pub spans : HasOfEach (λ s. s.end - s.start) stops before.spans after.spans
   pub reads : HasOfEach (λ s. s.count) stops before.reads after.reads
 
--- The first refusal that applies, and then no stops and every row as it was; or the number of stops that the wants make, and the run's stops in the rows.
-pub record JoinAnswers (r : Run) (before : JoinRows) (answer : Joined) (after : JoinRows) : Type 0 where
-  pub first : FirstThatApplies (JoinApplies r before) join_order answer.verdict.refusal answer.verdict.place
-  pub kept : (answer.verdict.refusal ≡ Accepted → ⊥) → (answer.stops ≡ 0) × (after ≡ before)
-  pub counted : answer.verdict.refusal ≡ Accepted → HasStops r answer.stops × (answer.stops ≡ length (stops_of r))
-  pub joined : answer.verdict.refusal ≡ Accepted → StopsInRows (stops_of r) before after
+-- The verdict of an answer: acceptance where it is a number.
+abbrev pub verdict_told : Result ℕ Verdict → Verdict
+verdict_told (Ok n) = accepted
+verdict_told (Err v) = v
+
+-- The first refusal that applies, and then no number of stops and every row as it was; or the number of stops that the wants make, and the run's stops in the rows.
+pub record JoinAnswers (r : Run) (before : JoinRows) (answer : Result ℕ Verdict) (after : JoinRows) : Type 0 where
+  pub first : FirstThatApplies (JoinApplies r before) join_order (verdict_told answer).refusal (verdict_told answer).place
+  pub kept : (v : Verdict) → answer ≡ Err v → (v.refusal ≡ Accepted → ⊥) × (after ≡ before)
+  pub counted : (stops : ℕ) → answer ≡ Ok stops → HasStops r stops × (stops ≡ length (stops_of r))
+  pub joined : (stops : ℕ) → answer ≡ Ok stops → StopsInRows (stops_of r) before after
 
 abbrev pub JoinTells : Type 0
 JoinTells =
-    (r : Run) (before : JoinRows) (answer : Joined) (after : JoinRows)
+    (r : Run) (before : JoinRows) (answer : Result ℕ Verdict) (after : JoinRows)
     → answer ≡ join_answer r before
     → after ≡ join_rows_of r before
     → JoinAnswers r before answer after
@@ -86,10 +90,10 @@ four_rows firsts lefts spans reads = record { firsts = firsts; lefts = lefts; sp
 
 abbrev pub JoinsTheExample : Type 0
 JoinsTheExample =
-    (answer : Joined) (after : JoinRows)
+    (answer : Result ℕ Verdict) (after : JoinRows)
     → answer ≡ join_answer (sheet_run example_sheet) (four_rows (6 ∷ 6 ∷ 6 ∷ 6 ∷ []) (7 ∷ 7 ∷ 7 ∷ 7 ∷ []) (8 ∷ 8 ∷ 8 ∷ 8 ∷ []) (9 ∷ 9 ∷ 9 ∷ 9 ∷ []))
     → after ≡ join_rows_of (sheet_run example_sheet) (four_rows (6 ∷ 6 ∷ 6 ∷ 6 ∷ []) (7 ∷ 7 ∷ 7 ∷ 7 ∷ []) (8 ∷ 8 ∷ 8 ∷ 8 ∷ []) (9 ∷ 9 ∷ 9 ∷ 9 ∷ []))
-    → (answer.stops ≡ 3) × (after ≡ four_rows (1 ∷ 2 ∷ 3 ∷ 6 ∷ []) (0 ∷ 10 ∷ 20 ∷ 7 ∷ []) (10 ∷ 4 ∷ 30 ∷ 8 ∷ []) (1 ∷ 3 ∷ 1 ∷ 9 ∷ []))
+    → (answer ≡ Ok 3) × (after ≡ four_rows (1 ∷ 2 ∷ 3 ∷ 6 ∷ []) (0 ∷ 10 ∷ 20 ∷ 7 ∷ []) (10 ∷ 4 ∷ 30 ∷ 8 ∷ []) (1 ∷ 3 ∷ 1 ∷ 9 ∷ []))
 
 -- The longest of some times, of any two rows: a file without a time counts as one with 0, and a time without a file not at all. None is longer; where it is above 0,
 -- it is the first of the longest; else there is no file.

@@ -1,5 +1,5 @@
 -- Readers of single lines for a caller in Rattle, at any byte of any text; and of a tape's table, in any two rows, neighbours that overlap and one file more.
-use Rattle.std.specs.Prelude.{ℕ, suc, ◌+◌, ◌*◌, ◌^◌, ◌≤◌, ◌<◌, ◌≡◌, true, false, ◌⊎◌, ◌↔◌, List, [], ◌∷◌, ◌++◌, length, get_or, drop}
+use Rattle.std.specs.Prelude.{ℕ, suc, ◌+◌, ◌*◌, ◌^◌, ◌≤◌, ◌<◌, ◌≡◌, true, false, ◌⊎◌, ◌↔◌, List, [], ◌∷◌, ◌++◌, length, get_or, drop, Option, Some, None}
 use Rattle.text_bytes.specs.Text.{line_feed}
 use Rattle.text_lines.specs.declared.NumberLine.{NumberLine}
 use Rattle.text_lines.specs.Found.{NumberLineFound}
@@ -25,28 +25,28 @@ abbrev pub NoLineAt : List ℕ → (List ℕ → Type 0) → List ℕ → ℕ �
 NoLineAt key Kind text at = (next : ℕ) → StandsAt key Kind text at next → ⊥
 
 -- The price of a turn: nothing, which is the drives' own, or a number.
-abbrev pub TurnLineTold : List ℕ → ℕ → NumberLine → Type 0
-TurnLineTold text at (NumberLine.Value turn next) = StandsAt turn_key (λ value. NumberOrNothing value × PriceText turn value) text at next
-TurnLineTold text at NumberLine.Bad = NoLineAt turn_key NumberOrNothing text at
+abbrev pub TurnLineTold : List ℕ → ℕ → Option NumberLine → Type 0
+TurnLineTold text at (Some line) = StandsAt turn_key (λ value. NumberOrNothing value × PriceText line.number value) text at line.next
+TurnLineTold text at None = NoLineAt turn_key NumberOrNothing text at
 
 abbrev pub TurnLineIsRead : Type 0
-TurnLineIsRead = (text : List ℕ) (at : ℕ) (line : NumberLine) → NumberLineFound is_turn_line turn_in text at line → TurnLineTold text at line
+TurnLineIsRead = (text : List ℕ) (at : ℕ) (line : Option NumberLine) → NumberLineFound is_turn_line turn_in text at line → TurnLineTold text at line
 
 -- The rule: the retired one, or the least.
-abbrev pub RuleLineTold : List ℕ → ℕ → RuleLine → Type 0
-RuleLineTold text at (RuleLine.Value sweep next) = StandsAt rule_key (λ value. ((value ≡ sweep_text) × (sweep ≡ true)) ⊎ ((value ≡ least_text) × (sweep ≡ false))) text at next
-RuleLineTold text at RuleLine.Bad = NoLineAt rule_key RuleName text at
+abbrev pub RuleLineTold : List ℕ → ℕ → Option RuleLine → Type 0
+RuleLineTold text at (Some line) = StandsAt rule_key (λ value. ((value ≡ sweep_text) × (line.sweep ≡ true)) ⊎ ((value ≡ least_text) × (line.sweep ≡ false))) text at line.next
+RuleLineTold text at None = NoLineAt rule_key RuleName text at
 
 abbrev pub RuleLineIsRead : Type 0
-RuleLineIsRead = (text : List ℕ) (at : ℕ) (line : RuleLine) → RuleLineFound text at line → RuleLineTold text at line
+RuleLineIsRead = (text : List ℕ) (at : ℕ) (line : Option RuleLine) → RuleLineFound text at line → RuleLineTold text at line
 
 -- The tape's name, at the front of a text: where it ends, behind the five bytes of its key.
-abbrev pub TapeLineTold : List ℕ → NameLine → Type 0
-TapeLineTold text (NameLine.Name end next) = StandsAt tape_key (λ value. Name value × (end ≡ 5 + length value)) text 0 next
-TapeLineTold text NameLine.Bad = NoLineAt tape_key Name text 0
+abbrev pub TapeLineTold : List ℕ → Option NameLine → Type 0
+TapeLineTold text (Some line) = StandsAt tape_key (λ value. Name value × (line.end ≡ 5 + length value)) text 0 line.next
+TapeLineTold text None = NoLineAt tape_key Name text 0
 
 abbrev pub TapeLineIsRead : Type 0
-TapeLineIsRead = (text : List ℕ) (line : NameLine) → NameLineFound text line → TapeLineTold text line
+TapeLineIsRead = (text : List ℕ) (line : Option NameLine) → NameLineFound text line → TapeLineTold text line
 
 -- Two neighbours that both rows have: the earlier one ends behind the start of the later one.
 pub record NeighboursOverlap (starts lengths : List ℕ) : Type 0 where

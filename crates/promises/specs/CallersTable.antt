@@ -1,17 +1,18 @@
 -- The table engine and the judging of a detour list for a caller in Rattle, whatever run, rows and stops are handed in.
-use Rattle.std.specs.Prelude.{ℕ, ◌+◌, ◌-◌, ◌*◌, ◌≤◌, ◌<◌, ◌≡◌, ◌⊎◌, List, [], ◌∷◌, ◌++◌, length, get_or, drop, replicate}
+use Rattle.std.specs.Prelude.{ℕ, Result, Ok, Err, ◌+◌, ◌-◌, ◌*◌, ◌≤◌, ◌<◌, ◌≡◌, ◌⊎◌, List, [], ◌∷◌, ◌++◌, length, get_or, drop, replicate}
 use Rattle.refusals.specs.declared.Refusal.{Refusal}
 use Rattle.refusals.specs.declared.Refusal.TheVariants.{Accepted, FileRows, ShortRow, ShortRoom, BadEntry}
+use Rattle.refusals.specs.declared.Verdict.{Verdict}
 use Rattle.runs.specs.Run.{Run, Stop, total}
 use Rattle.runs.specs.Rows.{stop_at}
 use Rattle.runs.specs.Lists.{list_of, list_verdict}
 use Rattle.least.specs.AnyHead.{LeastAny}
-use Rattle.engine_table.specs.declared.Listed.{Listed}
 use Rattle.engine_table.specs.Listing.{ListRows, Lists}
 use Rattle.demands.specs.RefusalTable.{FirstBad, FirstThatApplies}
 use Rattle.demands.specs.Demand1.{plan_order}
 use Rattle.demands.specs.Formed.{IsStop}
 use Rattle.demands.specs.AnyHead.{RunAppliesAny}
+use Rattle.promises.specs.Callers.{verdict_told}
 use Rattle.promises.specs.CallersRead.{EntriesRead}
 
 -- The words of working room: wants by wants, for each number of reads from 0 to all.
@@ -30,16 +31,16 @@ pub data TableApplies (r : Run) (rows : ListRows) : Refusal → ℕ → Type 0 w
 abbrev pub LeastInRows : Run → List ℕ → List ℕ → Type 0
 LeastInRows r froms tos = (length froms ≡ length tos) × LeastAny r (list_of froms tos)
 
--- The first refusal that applies, and then no detours and every row as it was; or the least list in the first entries, and zero in the words of the room. Later entries and words
+-- The first refusal that applies, and then no number of detours and every row as it was; or the least list in the first entries, and zero in the words of the room. Later entries and words
 -- are as they were.
-pub record TableAnswers (r : Run) (before : ListRows) (answer : Listed) (after : ListRows) : Type 0 where
-  pub first : FirstThatApplies (TableApplies r before) plan_order answer.verdict.refusal answer.verdict.place
-  pub kept : (answer.verdict.refusal ≡ Accepted → ⊥) → (answer.detours ≡ 0) × (after ≡ before)
-  pub listed : answer.verdict.refusal ≡ Accepted → EntriesRead (LeastInRows r) before.froms before.tos answer.detours after.froms after.tos
-  pub cleared : answer.verdict.refusal ≡ Accepted → after.room ≡ replicate (table_words r) 0 ++ drop (table_words r) before.room
+pub record TableAnswers (r : Run) (before : ListRows) (answer : Result ℕ Verdict) (after : ListRows) : Type 0 where
+  pub first : FirstThatApplies (TableApplies r before) plan_order (verdict_told answer).refusal (verdict_told answer).place
+  pub kept : (v : Verdict) → answer ≡ Err v → (v.refusal ≡ Accepted → ⊥) × (after ≡ before)
+  pub listed : (detours : ℕ) → answer ≡ Ok detours → EntriesRead (LeastInRows r) before.froms before.tos detours after.froms after.tos
+  pub cleared : (detours : ℕ) → answer ≡ Ok detours → after.room ≡ replicate (table_words r) 0 ++ drop (table_words r) before.room
 
 abbrev pub TableTells : Type 0
-TableTells = (r : Run) (before : ListRows) (answer : Listed) (after : ListRows) → Lists r before answer after → TableAnswers r before answer after
+TableTells = (r : Run) (before : ListRows) (answer : Result ℕ Verdict) (after : ListRows) → Lists r before answer after → TableAnswers r before answer after
 
 -- 10 over any stops. An entry by itself: its start or its end is the file of no stop, its end is left of its start, or its start is not right of the leftmost stop.
 abbrev pub BreaksAlone : List Stop → ℕ → ℕ → Type 0

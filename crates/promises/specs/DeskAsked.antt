@@ -1,7 +1,7 @@
 -- Requests L6 and L7: each call does what was asked, by conditions and not by the definitions that the contracts cite. The ticket that is filed is the one handed
 -- in; the one that is withdrawn is gone, and no other; the run that boards has the tape, the head and the price handed in; the table in a lent row is its first 32
 -- records; and a line of a day is the event that it says.
-use Rattle.std.specs.Prelude.{ℕ, ◌≤◌, ◌≡◌, List, [], ◌∷◌, ◌++◌, length, take}
+use Rattle.std.specs.Prelude.{ℕ, ◌≤◌, ◌≡◌, List, [], ◌∷◌, ◌++◌, length, take, Option, Some, None}
 use Rattle.refusals.specs.declared.Refusal.TheVariants.{Accepted}
 use Rattle.text_bytes.specs.Text.{bytes, value_of}
 use Rattle.text_lines.specs.Lines.{line_of}
@@ -77,11 +77,11 @@ abbrev pub LastsByOffice : Type 0
 LastsByOffice = (row : List Ticket) (l : Lasts) → (last_of 1 l ≡ l.one) × ((last_of 2 l ≡ l.two) × (day_of row l ≡ record { row = row; lasts = l }))
 
 -- What a line holds: the numbers behind its key, in their order; no event where it is none of these three.
-pub data LineHolds (line : List ℕ) : Event → Type 0 where
-  a_filing : (s : Stands (bytes "file=") Triple line 0) → LineHolds line (Event.File (value_of s.kind.first) (value_of s.kind.right.first) (value_of s.kind.right.others))
-  a_withdrawal : (s : Stands (bytes "withdraw=") Pair line 0) → LineHolds line (Event.Withdraw (value_of s.kind.first) (value_of s.kind.others))
-  a_boarding : (s : Stands (bytes "board=") Pair line 0) → LineHolds line (Event.Board (value_of s.kind.first) (value_of s.kind.others))
-  no_event : (Stands (bytes "file=") Triple line 0 → ⊥) → (Stands (bytes "withdraw=") Pair line 0 → ⊥) → (Stands (bytes "board=") Pair line 0 → ⊥) → LineHolds line Event.Bad
+pub data LineHolds (line : List ℕ) : Option Event → Type 0 where
+  a_filing : (s : Stands (bytes "file=") Triple line 0) → LineHolds line (Some (Event.File (value_of s.kind.first) (value_of s.kind.right.first) (value_of s.kind.right.others)))
+  a_withdrawal : (s : Stands (bytes "withdraw=") Pair line 0) → LineHolds line (Some (Event.Withdraw (value_of s.kind.first) (value_of s.kind.others)))
+  a_boarding : (s : Stands (bytes "board=") Pair line 0) → LineHolds line (Some (Event.Board (value_of s.kind.first) (value_of s.kind.others)))
+  no_event : (Stands (bytes "file=") Triple line 0 → ⊥) → (Stands (bytes "withdraw=") Pair line 0 → ⊥) → (Stands (bytes "board=") Pair line 0 → ⊥) → LineHolds line None
 
 abbrev pub EventIsItsLine : Type 0
 EventIsItsLine = (line : List ℕ) → LineHolds line (event_of (line_of line))

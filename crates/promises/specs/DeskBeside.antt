@@ -1,6 +1,6 @@
 -- What stands beside a verdict at the desk. A row of fewer than 32 records is refused by 8 with place 0, whatever is called on it. A refused call says its refusal and
 -- place and nothing else, and leaves the rows lent beside the table. An accepted boarding hands out the wants of those who board; an accepted event is told.
-use Rattle.std.specs.Prelude.{ℕ, ◌-◌, ◌≤◌, ◌<◌, ◌≡◌, List, length, take, drop, replicate}
+use Rattle.std.specs.Prelude.{ℕ, ◌-◌, ◌≤◌, ◌<◌, ◌≡◌, List, length, take, drop, replicate, Option, None}
 use Rattle.refusals.specs.declared.Refusal.TheVariants.{Accepted, ShortRow}
 use Rattle.refusals.specs.declared.Verdict.{Verdict}
 use Rattle.runs.specs.Run.{Run}
@@ -37,10 +37,10 @@ ShortRowsRefused =
 
 abbrev pub ShortRowsAnswered : Type 0
 ShortRowsAnswered =
-    (ts : List Ticket) (l : Lasts) (tape : Tape) (room out : List ℕ) (e : Event) (r : Told) (exit : List Ticket) (room' out' : List ℕ)
+    (ts : List Ticket) (l : Lasts) (tape : Tape) (room out : List ℕ) (e : Option Event) (r : Told) (exit : List Ticket) (room' out' : List ℕ)
     → LentAnswered ts l tape room out e r exit room' out'
     → length ts < 32
-    → (e ≡ Event.Bad → ⊥)
+    → (e ≡ None → ⊥)
     → r.verdict ≡ record { refusal = ShortRow; place = 0 }
 
 -- A refused boarding: no number of a plan, nobody taken, no wants, and the rows beside the table as they were.
@@ -88,7 +88,7 @@ RowHandsOutWants =
 -- An event accepted on a lent row: what it tells stands in the row for the text, and the table told of is the one in the row afterwards.
 abbrev pub AcceptedAnswerTells : Type 0
 AcceptedAnswerTells =
-    (ts : List Ticket) (l : Lasts) (tape : Tape) (room out : List ℕ) (e : Event) (r : Told) (exit : List Ticket) (room' out' : List ℕ)
+    (ts : List Ticket) (l : Lasts) (tape : Tape) (room out : List ℕ) (e : Option Event) (r : Told) (exit : List Ticket) (room' out' : List ℕ)
     → LentAnswered ts l tape room out e r exit room' out'
     → 32 ≤ length ts
     → r.verdict.refusal ≡ Accepted

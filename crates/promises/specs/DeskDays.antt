@@ -1,6 +1,6 @@
 -- Requests L6 and L7 at the terminal: the lines of a day at one tape, each answered by `answer_desk` on the day that the one before it left. Such a day is calls on
 -- one table (Desk), so every promise over days holds of `./violstream desk`. A refusal changes nothing, and the rows of the program are long enough.
-use Rattle.std.specs.Prelude.{ℕ, ◌≤◌, ◌≡◌, List, [], ◌∷◌, length, drop, replicate}
+use Rattle.std.specs.Prelude.{ℕ, ◌≤◌, ◌≡◌, List, [], ◌∷◌, length, drop, replicate, Option, Some, None}
 use Rattle.refusals.specs.declared.Refusal.{Refusal}
 use Rattle.refusals.specs.declared.Refusal.TheVariants.{Accepted, FileRows, BadFile, TurnPrice, HeadPlace, ShortRow}
 use Rattle.refusals.specs.Refusals.{accepted}
@@ -32,7 +32,7 @@ use Rattle.promises.specs.DeskCases.{ticket, lasts, filed}
 -- Whatever is lent: a refusal, 8 for a row too short for the text among them, leaves the table, the last numbers, the working room and the row as they were.
 abbrev pub RefusedEventChangesNothing : Type 0
 RefusedEventChangesNothing =
-    (len : ℕ) (tape : Tape) (day : desk.Day) (room out : List ℕ) (e : Event) (r : Answered) (room' out' : List ℕ)
+    (len : ℕ) (tape : Tape) (day : desk.Day) (room out : List ℕ) (e : Option Event) (r : Answered) (room' out' : List ℕ)
     → EventAnswered len tape day room out e r room' out'
     → (r.verdict.refusal ≡ Accepted → ⊥)
     → (r.day ≡ day) × (room' ≡ room) × (out' ≡ out) × (r.bytes ≡ 0)
@@ -40,7 +40,7 @@ RefusedEventChangesNothing =
 -- A row of 2,677 bytes takes every answer: with a table of 32 places or more 8 is never answered.
 abbrev pub RowTakesEveryAnswer : Type 0
 RowTakesEveryAnswer =
-    (len : ℕ) (tape : Tape) (day : desk.Day) (room out : List ℕ) (e : Event) (r : Answered) (room' out' : List ℕ)
+    (len : ℕ) (tape : Tape) (day : desk.Day) (room out : List ℕ) (e : Option Event) (r : Answered) (room' out' : List ℕ)
     → 32 ≤ len
     → 2677 ≤ length out
     → EventAnswered len tape day room out e r room' out'
@@ -73,18 +73,18 @@ pub data Held (tape : Tape) : desk.Day → List Exchange → desk.Day → Type 0
   goes_on : {day next last : desk.Day} {x : Exchange} {xs : List Exchange} → Turned tape day x next → Held tape next xs last → Held tape day (x ∷ xs) last
 
 -- The call that an event is, at one tape, with the numbers of its line; a boarding with rows of eight entries beside the room.
-pub data IsCall (tape : Tape) : Event → Call → Type 0 where
+pub data IsCall (tape : Tape) : Option Event → Call → Type 0 where
   a_filing : {len office file count : ℕ} {l : Lasts} {r : FiledRow}
-      → IsCall tape (Event.File office file count) (filing len (record { office = office; file = file; count = count; files = length tape.starts; lasts = l }) r)
+      → IsCall tape (Some (Event.File office file count)) (filing len (record { office = office; file = file; count = count; files = length tape.starts; lasts = l }) r)
   a_withdrawal : {len office number : ℕ} {l : Lasts} {r : WithdrawnRow}
-      → IsCall tape (Event.Withdraw office number) (withdrawal len (record { office = office; number = number; lasts = l }) r)
+      → IsCall tape (Some (Event.Withdraw office number)) (withdrawal len (record { office = office; number = number; lasts = l }) r)
   a_boarding : {len head turn : ℕ} {l : Lasts} {room : List ℕ} {after : Rows} {r : BoardedRow}
-      → IsCall tape (Event.Board head turn) (boarding len tape (record { head = head; turn = turn; lasts = l }) (rows_of (zeros 8) (zeros 8) (zeros 8) (zeros 8) room) after r)
+      → IsCall tape (Some (Event.Board head turn)) (boarding len tape (record { head = head; turn = turn; lasts = l }) (rows_of (zeros 8) (zeros 8) (zeros 8) (zeros 8) room) after r)
 
 -- The calls of a day's lines, in order: a line that is an event is its call, and is answered as that; one that is none is no call.
 pub data AreCalls (tape : Tape) : List Exchange → List Call → Type 0 where
   no_more : AreCalls tape [] []
-  no_event : {x : Exchange} {xs : List Exchange} {cs : List Call} → event_of (line_of x.line) ≡ Event.Bad → AreCalls tape xs cs → AreCalls tape (x ∷ xs) cs
+  no_event : {x : Exchange} {xs : List Exchange} {cs : List Call} → event_of (line_of x.line) ≡ None → AreCalls tape xs cs → AreCalls tape (x ∷ xs) cs
   an_event : {x : Exchange} {xs : List Exchange} {c : Call} {cs : List Call}
       → IsCall tape (event_of (line_of x.line)) c → x.answer ≡ answered c → AreCalls tape xs cs → AreCalls tape (x ∷ xs) (c ∷ cs)
 
@@ -143,7 +143,7 @@ BoardsAtTheDesk =
     (tape : Tape) (xs : List Exchange) (day next : desk.Day) (x : Exchange) (head turn : ℕ)
     → Held tape morning_day xs day
     → Turned tape day x next
-    → event_of (line_of x.line) ≡ Event.Board head turn
+    → event_of (line_of x.line) ≡ Some (Event.Board head turn)
     → ((place : ℕ) → RunApplies (no_wants_on tape) FileRows place → ⊥)
     → AtTheDesk x.answer
 

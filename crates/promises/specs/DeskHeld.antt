@@ -1,5 +1,5 @@
 -- The same of the functions of `desk_rows`, by which `./violstream desk` goes: `answer_held` on the program's table, `answer` on a lent row of any length.
-use Rattle.std.specs.Prelude.{ℕ, ◌≤◌, ◌≡◌, List, [], ◌∷◌, length}
+use Rattle.std.specs.Prelude.{ℕ, ◌≤◌, ◌≡◌, List, [], ◌∷◌, length, Option}
 use Rattle.refusals.specs.declared.Refusal.TheVariants.{Accepted}
 use Rattle.text_lines.specs.Lines.{line_of}
 use Rattle.desk_tickets.specs.declared.Ticket.{Ticket}
@@ -48,14 +48,14 @@ ProgramMakesCalls =
 -- What it tells of one line: the text of an accepted event; of a refusal no byte, and all is as it was.
 abbrev pub ProgramTells : Type 0
 ProgramTells =
-    (row : List Ticket) (l : Lasts) (tape : Tape) (room out : List ℕ) (e : Event) (r : ToldRow) (room' out' : List ℕ)
+    (row : List Ticket) (l : Lasts) (tape : Tape) (room out : List ℕ) (e : Option Event) (r : ToldRow) (room' out' : List ℕ)
     → HeldAnswered row l tape room out e r room' out'
     → r.told.verdict.refusal ≡ Accepted
     → TextStands 32 tape (day_of row l) room out e (day_of r.row r.told.lasts) r.told.bytes out'
 
 abbrev pub ProgramKeeps : Type 0
 ProgramKeeps =
-    (row : List Ticket) (l : Lasts) (tape : Tape) (room out : List ℕ) (e : Event) (r : ToldRow) (room' out' : List ℕ)
+    (row : List Ticket) (l : Lasts) (tape : Tape) (room out : List ℕ) (e : Option Event) (r : ToldRow) (room' out' : List ℕ)
     → HeldAnswered row l tape room out e r room' out'
     → (r.told.verdict.refusal ≡ Accepted → ⊥)
     → (r.row ≡ row) × (r.told.lasts ≡ l) × (room' ≡ room) × (out' ≡ out) × (r.told.bytes ≡ 0)
@@ -63,7 +63,7 @@ ProgramKeeps =
 -- An event refused on a lent row, of any length, leaves every record, the last numbers, the room and the row for the text as they were.
 abbrev pub RefusedAnswerLeavesTheRow : Type 0
 RefusedAnswerLeavesTheRow =
-    (ts : List Ticket) (l : Lasts) (tape : Tape) (room out : List ℕ) (e : Event) (r : Told) (exit : List Ticket) (room' out' : List ℕ)
+    (ts : List Ticket) (l : Lasts) (tape : Tape) (room out : List ℕ) (e : Option Event) (r : Told) (exit : List Ticket) (room' out' : List ℕ)
     → LentAnswered ts l tape room out e r exit room' out'
     → (r.verdict.refusal ≡ Accepted → ⊥)
     → (exit ≡ ts) × (r.lasts ≡ l) × (room' ≡ room) × (out' ≡ out) × (r.bytes ≡ 0)

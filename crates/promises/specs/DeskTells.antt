@@ -1,5 +1,5 @@
 -- What the desk tells, in words of its own: an accepted event's text stands in the first bytes of the lent row, and later bytes stay.
-use Rattle.std.specs.Prelude.{ℕ, suc, ◌≤◌, ◌<◌, ◌≡◌, List, [], ◌∷◌, ◌++◌, length, get_or, take, drop}
+use Rattle.std.specs.Prelude.{ℕ, suc, ◌≤◌, ◌<◌, ◌≡◌, List, [], ◌∷◌, ◌++◌, length, get_or, take, drop, Option, Some, None}
 use Rattle.refusals.specs.declared.Refusal.TheVariants.{Accepted}
 use Rattle.runs.specs.Run.{Run}
 use Rattle.runs.specs.Alone.{zeros}
@@ -72,14 +72,14 @@ pub record BoardingTold (len : ℕ) (tape : Tape) (day : desk.Day) (room : List 
       ++ closing
 
 -- The text by the event. A line that is none is never accepted.
-abbrev pub EventTold : ℕ → Tape → desk.Day → List ℕ → Event → desk.Day → List ℕ → Type 0
-EventTold len tape day room (Event.File office file count) next text = FilingTold day office next text
-EventTold len tape day room (Event.Withdraw office number) next text = text ≡ bytes "withdrawn=" ++ pair office number ++ bytes "\n"
-EventTold len tape day room (Event.Board head turn) next text = BoardingTold len tape day room head turn next text
-EventTold len tape day room Event.Bad next text = ⊥
+abbrev pub EventTold : ℕ → Tape → desk.Day → List ℕ → Option Event → desk.Day → List ℕ → Type 0
+EventTold len tape day room (Some (Event.File office file count)) next text = FilingTold day office next text
+EventTold len tape day room (Some (Event.Withdraw office number)) next text = text ≡ bytes "withdrawn=" ++ pair office number ++ bytes "\n"
+EventTold len tape day room (Some (Event.Board head turn)) next text = BoardingTold len tape day room head turn next text
+EventTold len tape day room None next text = ⊥
 
 -- It stands in the row: at least one byte, and no byte behind it has changed.
-pub record TextStands (len : ℕ) (tape : Tape) (day : desk.Day) (room out : List ℕ) (e : Event) (next : desk.Day) (n : ℕ) (out' : List ℕ) : Type 0 where
+pub record TextStands (len : ℕ) (tape : Tape) (day : desk.Day) (room out : List ℕ) (e : Option Event) (next : desk.Day) (n : ℕ) (out' : List ℕ) : Type 0 where
   pub some : 0 < n
   pub within : n ≤ length out
   pub whole : length (take n out') ≡ n
@@ -88,7 +88,7 @@ pub record TextStands (len : ℕ) (tape : Tape) (day : desk.Day) (room out : Lis
 
 abbrev pub AcceptedEventTells : Type 0
 AcceptedEventTells =
-    (len : ℕ) (tape : Tape) (day : desk.Day) (room out : List ℕ) (e : Event) (r : Answered) (room' out' : List ℕ)
+    (len : ℕ) (tape : Tape) (day : desk.Day) (room out : List ℕ) (e : Option Event) (r : Answered) (room' out' : List ℕ)
     → EventAnswered len tape day room out e r room' out'
     → r.verdict.refusal ≡ Accepted
     → TextStands len tape day room out e r.day r.bytes out'

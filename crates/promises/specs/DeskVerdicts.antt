@@ -1,6 +1,6 @@
 -- The verdict of an event at the desk, with its place: the first refusal of the event that applies, by the same conditions as of its call; 11 with place 0 for a line
 -- that is no event; and 8 only where no refusal of the event applies and its text is longer than the row.
-use Rattle.std.specs.Prelude.{ℕ, ◌≤◌, ◌<◌, ◌≡◌, false, ◌⊎◌, List, length}
+use Rattle.std.specs.Prelude.{ℕ, ◌≤◌, ◌<◌, ◌≡◌, false, ◌⊎◌, List, length, Option, Some, None}
 use Rattle.refusals.specs.declared.Refusal.{Refusal}
 use Rattle.refusals.specs.declared.Refusal.TheVariants.{Accepted, ShortRow, BadLine}
 use Rattle.refusals.specs.declared.Verdict.{Verdict}
@@ -39,17 +39,17 @@ pub record FirstOfBoarding (len : ℕ) (tape : Tape) (row : List Ticket) (b : Bo
   pub of_the_run : (SomeApplies (RowApplies len row b.lasts) row_order → ⊥) → FirstThatApplies (PlanApplies (board_run tape row b) before) plan_order v.refusal v.place
 
 -- A verdict, with its place, is an event's own.
-abbrev pub OwnVerdict : ℕ → Tape → desk.Day → List ℕ → Event → Verdict → Type 0
-OwnVerdict len tape day room (Event.File office file count) v =
+abbrev pub OwnVerdict : ℕ → Tape → desk.Day → List ℕ → Option Event → Verdict → Type 0
+OwnVerdict len tape day room (Some (Event.File office file count)) v =
     FirstThatApplies (FilingApplies len day.row (filing_at tape day office file count)) filing_order v.refusal v.place
-OwnVerdict len tape day room (Event.Withdraw office number) v =
+OwnVerdict len tape day room (Some (Event.Withdraw office number)) v =
     FirstThatApplies (WithdrawalApplies len day.row (withdrawal_at day office number)) withdrawal_order v.refusal v.place
-OwnVerdict len tape day room (Event.Board head turn) v =
+OwnVerdict len tape day room (Some (Event.Board head turn)) v =
     FirstOfBoarding len tape day.row (boarding_at day head turn) (rows_of (zeros 8) (zeros 8) (zeros 8) (zeros 8) room) v
-OwnVerdict len tape day room Event.Bad v = (v.refusal ≡ BadLine) × (v.place ≡ 0)
+OwnVerdict len tape day room None v = (v.refusal ≡ BadLine) × (v.place ≡ 0)
 
 -- 8 for the row of the text: no refusal of the event applies, and the text that it would be told has more bytes than the row, 2,677 at most.
-pub record RowTooShort (len : ℕ) (tape : Tape) (day : desk.Day) (room out : List ℕ) (e : Event) (v : Verdict) : Type 0 where
+pub record RowTooShort (len : ℕ) (tape : Tape) (day : desk.Day) (room out : List ℕ) (e : Option Event) (v : Verdict) : Type 0 where
   pub eight : v ≡ record { refusal = ShortRow; place = 0 }
   pub passes : OwnVerdict len tape day room e accepted
   pub next : desk.Day
@@ -61,20 +61,20 @@ pub record RowTooShort (len : ℕ) (tape : Tape) (day : desk.Day) (room out : Li
 -- Whatever is lent.
 abbrev pub EventVerdicts : Type 0
 EventVerdicts =
-    (len : ℕ) (tape : Tape) (day : desk.Day) (room out : List ℕ) (e : Event) (r : Answered) (room' out' : List ℕ)
+    (len : ℕ) (tape : Tape) (day : desk.Day) (room out : List ℕ) (e : Option Event) (r : Answered) (room' out' : List ℕ)
     → EventAnswered len tape day room out e r room' out'
     → OwnVerdict len tape day room e r.verdict ⊎ RowTooShort len tape day room out e r.verdict
 
 -- So of what `answer_held` and `answer` hand back: on the program's table, and on a lent row of any length.
 abbrev pub ProgramVerdicts : Type 0
 ProgramVerdicts =
-    (row : List Ticket) (l : Lasts) (tape : Tape) (room out : List ℕ) (e : Event) (r : ToldRow) (room' out' : List ℕ)
+    (row : List Ticket) (l : Lasts) (tape : Tape) (room out : List ℕ) (e : Option Event) (r : ToldRow) (room' out' : List ℕ)
     → HeldAnswered row l tape room out e r room' out'
     → OwnVerdict 32 tape (day_of row l) room e r.told.verdict ⊎ RowTooShort 32 tape (day_of row l) room out e r.told.verdict
 
 abbrev pub LentVerdicts : Type 0
 LentVerdicts =
-    (ts : List Ticket) (l : Lasts) (tape : Tape) (room out : List ℕ) (e : Event) (r : Told) (exit : List Ticket) (room' out' : List ℕ)
+    (ts : List Ticket) (l : Lasts) (tape : Tape) (room out : List ℕ) (e : Option Event) (r : Told) (exit : List Ticket) (room' out' : List ℕ)
     → LentAnswered ts l tape room out e r exit room' out'
     → OwnVerdict (length ts) tape (day_of (table_in ts) l) room e r.verdict ⊎ RowTooShort (length ts) tape (day_of (table_in ts) l) room out e r.verdict
 

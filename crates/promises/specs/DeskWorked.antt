@@ -1,5 +1,5 @@
 -- Worked: a day at the tape of document 01's sheet, line by line as the program hands them to `answer_held`, each answer byte for byte.
-use Rattle.std.specs.Prelude.{ℕ, ◌≤◌, ◌≡◌, List, [], ◌∷◌, ◌++◌, length, drop, replicate}
+use Rattle.std.specs.Prelude.{ℕ, ◌≤◌, ◌≡◌, List, [], ◌∷◌, ◌++◌, length, drop, replicate, Some, None}
 use Rattle.refusals.specs.Refusals.{accepted}
 use Rattle.runs.specs.Alone.{zeros}
 use Rattle.text_bytes.specs.Text.{bytes}
@@ -16,12 +16,12 @@ use Rattle.promises.specs.DeskDays.{sheet_tape}
 -- Lines and what they hold; the last three are no events.
 abbrev pub LinesCase : Type 0
 LinesCase =
-    (event_of (line_of (bytes "file=1,2,3\n")) ≡ Event.File 1 2 3)
-    × (event_of (line_of (bytes "withdraw=2,5\n")) ≡ Event.Withdraw 2 5)
-    × (event_of (line_of (bytes "board=60,1\n")) ≡ Event.Board 60 1)
-    × (event_of (line_of (bytes "file=1,2\n")) ≡ Event.Bad)
-    × (event_of (line_of (bytes "withdraw=2\n")) ≡ Event.Bad)
-    × (event_of (line_of (bytes "leave=60,1\n")) ≡ Event.Bad)
+    (event_of (line_of (bytes "file=1,2,3\n")) ≡ Some (Event.File 1 2 3))
+    × (event_of (line_of (bytes "withdraw=2,5\n")) ≡ Some (Event.Withdraw 2 5))
+    × (event_of (line_of (bytes "board=60,1\n")) ≡ Some (Event.Board 60 1))
+    × (event_of (line_of (bytes "file=1,2\n")) ≡ None)
+    × (event_of (line_of (bytes "withdraw=2\n")) ≡ None)
+    × (event_of (line_of (bytes "leave=60,1\n")) ≡ None)
 
 -- The tickets of both offices, and the last numbers given.
 abbrev pub desk_at : List Ticket → List Ticket → ℕ → ℕ → desk.Day

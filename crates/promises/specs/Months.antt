@@ -1,6 +1,6 @@
 -- The request on a month's page (L13): each total is the same figure taken over the list of runs; what is added part by part is that, for the
 -- whole input's division into sheets, 25 with its place included; and the order of the sheets matters only for the tie.
-use Rattle.std.specs.Prelude.{ℕ, zero, suc, ◌+◌, ◌-◌, ◌*◌, ◌≤◌, ◌<◌, ◌≡◌, Bool, true, false, cond, not, ◌&&◌, ◌⊎◌, List, [], ◌∷◌, ◌++◌, length, get_or, take, drop, eqb, leb}
+use Rattle.std.specs.Prelude.{ℕ, zero, suc, ◌+◌, ◌-◌, ◌*◌, ◌≤◌, ◌<◌, ◌≡◌, Bool, true, false, cond, not, ◌&&◌, ◌⊎◌, Some, None, Result, Ok, Err, List, [], ◌∷◌, ◌++◌, length, get_or, take, drop, eqb, leb}
 use Rattle.refusals.specs.declared.Refusal.TheVariants.{Accepted, BadSheetCount}
 use Rattle.refusals.specs.declared.Verdict.{Verdict}
 use Rattle.refusals.specs.Refusals.{number_of, is_refusal}
@@ -9,8 +9,7 @@ use Rattle.answer_outcome.specs.declared.Outcome.{Outcome}
 use Rattle.answer_outcome.specs.Outcomes.{OutcomeOf}
 use Rattle.answer_month.specs.declared.Month.{Month}
 use Rattle.answer_month.specs.declared.Mean.{Mean}
-use Rattle.answer_month.specs.declared.Part.TheVariants.{End, Sheet, Bad}
-use Rattle.answer_month.specs.declared.Added.{Added}
+use Rattle.answer_month.specs.declared.CutOff.{CutOff}
 use Rattle.answer_month.specs.Month.{empty_month, added_all}
 use Rattle.answer_month.specs.Parts.{part_of, SheetAdded, input_verdict}
 use Rattle.answer_month.specs.Page.{mean_of, page_text, PagePut}
@@ -153,13 +152,13 @@ kept_of bytes rest = take 16385 (take bytes rest)
 
 -- Reading part by part, by what the functions of the crate answer: from a month and the rest of the input to the month and whether the input was good.
 pub data ReadsOn : Month → List ℕ → Month → Bool → Type 0 where
-  at_end : {m : Month} {input : List ℕ} → part_of m.sheets (line_held input) ≡ End → ReadsOn m input m true
-  no_part : {m : Month} {input : List ℕ} → part_of m.sheets (line_held input) ≡ Bad → ReadsOn m input m false
-  cut_short : {m : Month} {input : List ℕ} {bytes : ℕ} {r : Added} → part_of m.sheets (line_held input) ≡ Sheet bytes
-      → SheetAdded m bytes (length (take bytes (rest_of input))) (kept_of bytes (rest_of input)) r → r.whole ≡ false → ReadsOn m input r.month false
-  one_more : {m m' : Month} {input : List ℕ} {bytes : ℕ} {r : Added} {good : Bool} → part_of m.sheets (line_held input) ≡ Sheet bytes
-      → SheetAdded m bytes (length (take bytes (rest_of input))) (kept_of bytes (rest_of input)) r → r.whole ≡ true
-      → ReadsOn r.month (drop bytes (rest_of input)) m' good → ReadsOn m input m' good
+  at_end : {m : Month} {input : List ℕ} → part_of m.sheets (line_held input) ≡ Ok None → ReadsOn m input m true
+  no_part : {m : Month} {input : List ℕ} → part_of m.sheets (line_held input) ≡ Err (record {}) → ReadsOn m input m false
+  cut_short : {m : Month} {input : List ℕ} {bytes : ℕ} → part_of m.sheets (line_held input) ≡ Ok (Some bytes)
+      → SheetAdded m bytes (length (take bytes (rest_of input))) (kept_of bytes (rest_of input)) (Err (record { month = m })) → ReadsOn m input m false
+  one_more : {m next m' : Month} {input : List ℕ} {bytes : ℕ} {good : Bool} → part_of m.sheets (line_held input) ≡ Ok (Some bytes)
+      → SheetAdded m bytes (length (take bytes (rest_of input))) (kept_of bytes (rest_of input)) (Ok next)
+      → ReadsOn next (drop bytes (rest_of input)) m' good → ReadsOn m input m' good
 
 -- What was read is the month of the sheets that the input divides into; it is refused where that is not good, by 25 with the number of the sheet behind them.
 pub record MonthOfInput (input : List ℕ) (m : Month) (good : Bool) : Type 0 where
@@ -225,7 +224,7 @@ OnePage =
 -- So is a sheet that is added: two results that fit are equal.
 abbrev pub OneSheetMore : Type 0
 OneSheetMore =
-    (m : Month) (bytes there : ℕ) (sheet : List ℕ) (r s : Added)
+    (m : Month) (bytes there : ℕ) (sheet : List ℕ) (r s : Result Month CutOff)
     → SheetAdded m bytes there sheet r
     → SheetAdded m bytes there sheet s
     → r ≡ s

@@ -4,6 +4,7 @@ use mathlib.Core.Path.{◌≡◌, refl, sym, ap, ◌∙◌}
 use mathlib.Core.Bool.{true, false, true≢false}
 use mathlib.Core.Logic.{⊎_elim}
 use mathlib.Core.List.{List, [], ◌∷◌, ◌++◌}
+use Rattle.std.specs.Prelude.{None}
 use Rattle.runs.proofs.Search.{true_or_false}
 use Rattle.text_bytes.specs.Text.{line_feed, has, before, behind, is_empty, starts_with}
 use Rattle.text_bytes.proofs.Bytes.{and_true_both}
@@ -12,7 +13,6 @@ use Rattle.text_bytes.proofs.Decimals.{has_append}
 use Rattle.text_lines.specs.Lines.{line_of, is_pair_line, is_triple_line}
 use Rattle.desk_tickets.specs.declared.Ticket.{Ticket}
 use Rattle.desk_tickets.specs.WaitingTable.{waiting}
-use Rattle.answer_desk.specs.declared.Event.{Event}
 use Rattle.answer_desk.specs.Events.{pair_event_of, event_of}
 use Rattle.desk_waits.specs.Waits.{waits_lines, waiting_text}
 use Rattle.boundary_desk.specs.Calls.{is_line}
@@ -49,7 +49,7 @@ so_line line one =
     let plain = no_feed one.text one.plain in
     rw (one.is, has_append line_feed one.text (line_feed ∷ []), plain, behind_here line_feed one.text [] plain)
 
-nothing_is_no_event : event_of (line_of []) ≡ Event.Bad
+nothing_is_no_event : event_of (line_of []) ≡ None
 unfolding event_of pair_event_of line_of is_triple_line is_pair_line starts_with has
 nothing_is_no_event = refl
 

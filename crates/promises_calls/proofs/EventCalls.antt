@@ -5,6 +5,7 @@ use mathlib.Core.Bool.{true, false, true≢false}
 use mathlib.Core.List.{List}
 use mathlib.Core.Logic.{⊎_elim}
 use lib.ListN.{length, drop}
+use Rattle.std.specs.Prelude.{Option, Some, None}
 use Rattle.refusals.specs.declared.Refusal.TheVariants.{Accepted}
 use Rattle.refusals.specs.declared.Verdict.{Verdict}
 use Rattle.refusals.specs.Refusals.{is_refusal}
@@ -42,7 +43,7 @@ use Rattle.promises_calls.proofs.Found.{table_found, later_found}
 use Rattle.promises_calls.proofs.DeskCalls.{kept_so, whole_after, sound_at}
 
 -- The call that an accepted event is, on a sound table, and the day that it leaves, whose table has 32 records.
-record Accepts (tape : Tape) (e : Event) (rows : List (List ℕ)) (lasts : List ℕ) (r : Answered) : Type 0 where
+record Accepts (tape : Tape) (e : Option Event) (rows : List (List ℕ)) (lasts : List ℕ) (r : Answered) : Type 0 where
   call : Call
   is : IsCall tape e call
   accepts : CallAccepts call
@@ -50,41 +51,41 @@ record Accepts (tape : Tape) (e : Event) (rows : List (List ℕ)) (lasts : List 
   whole : length r.day.row ≡ 32
 
 module _ (tape : Tape) (rows : List (List ℕ)) (lasts : List ℕ) (r : Answered) where
-  left_so : (e : Event) (c : Call) → IsCall tape e c → CallAccepts c → IsTable (kept_in_c rows lasts) → (row : List Ticket) (l : Lasts) → Fits (kept_in_c rows lasts) c (record { row = row; lasts = l })
+  left_so : (e : Option Event) (c : Call) → IsCall tape e c → CallAccepts c → IsTable (kept_in_c rows lasts) → (row : List Ticket) (l : Lasts) → Fits (kept_in_c rows lasts) c (record { row = row; lasts = l })
       → r.day.row ≡ row → r.day.lasts ≡ l → Accepts tape e rows lasts r
   left_so e c is taken sound row l fits row_is l-is =
       let now : Fits (kept_in_c rows lasts) c (record { row = r.day.row; lasts = r.day.lasts }) = subst (λ (k : Kept). Fits (kept_in_c rows lasts) c k) (kept_so (sym row_is) (sym l-is)) fits in
       record { call = c; is = is; accepts = taken; fits = now; whole = whole_after (kept_in_c rows lasts) (record { row = r.day.row; lasts = r.day.lasts }) c sound now }
 
-  by_event : (e : Event) (len : ℕ) (room out room' out' : List ℕ) → EventAnswered len tape (day_at rows lasts) room out e r room' out' → r.verdict.refusal ≡ Accepted → Accepts tape e rows lasts r
-  by_event (Event.File o f c) len room out room' out' p served =
+  by_event : (e : Option Event) (len : ℕ) (room out room' out' : List ℕ) → EventAnswered len tape (day_at rows lasts) room out e r room' out' → r.verdict.refusal ≡ Accepted → Accepts tape e rows lasts r
+  by_event (Some (Event.File o f c)) len room out room' out' p served =
       let g : Filing = record { office = o; file = f; count = c; files = length tape.starts; lasts = lasts_in lasts } in
       let done = file_row len (table_at rows) g in
       let day = day_is (day_at rows lasts) _ room out r room out' (p.0 room) served in
       let passes = (told_so (day_at rows lasts) _ room out r room out' (p.0 room) served).0 in
       let h : refuses (file_verdict len (table_at rows) g) ≡ false = sym (ap (λ (v : Verdict). is_refusal v.refusal) (filing_verdict len (table_at rows) g)) ∙ passes in
-      left_so (Event.File o f c) (Call.filing len g done) IsCall.a_filing (accepts done.filed.verdict.refusal passes) (sound_at rows rows lasts len (file_accepted len (table_at rows) g h).table) done.row done.filed.lasts
+      left_so (Some (Event.File o f c)) (Call.filing len g done) IsCall.a_filing (accepts done.filed.verdict.refusal passes) (sound_at rows rows lasts len (file_accepted len (table_at rows) g h).table) done.row done.filed.lasts
       (Fits.files {len = len} {k = kept_in_c rows lasts} {f = g} {r = done} refl refl) (ap (λ (d : desk.Day). d.row) day) (ap (λ (d : desk.Day). d.lasts) day)
-  by_event (Event.Withdraw o n) len room out room' out' p served =
+  by_event (Some (Event.Withdraw o n)) len room out room' out' p served =
       let w : Withdrawal = record { office = o; number = n; lasts = lasts_in lasts } in
       let done = withdraw_row len (table_at rows) w in
       let day = day_is (day_at rows lasts) _ room out r room out' (p.0 room) served in
       let passes = (told_so (day_at rows lasts) _ room out r room out' (p.0 room) served).0 in
       let h : refuses (withdraw_verdict len (table_at rows) w) ≡ false = sym (ap (λ (v : Verdict). is_refusal v.refusal) (withdrawal_verdict len (table_at rows) w)) ∙ passes in
-      left_so (Event.Withdraw o n) (Call.withdrawal len w done) IsCall.a_withdrawal (accepts done.withdrawn.verdict.refusal passes) (sound_at rows rows lasts len (withdraw_accepted len (table_at rows) w h).table) done.row done.withdrawn.lasts
+      left_so (Some (Event.Withdraw o n)) (Call.withdrawal len w done) IsCall.a_withdrawal (accepts done.withdrawn.verdict.refusal passes) (sound_at rows rows lasts len (withdraw_accepted len (table_at rows) w h).table) done.row done.withdrawn.lasts
       (Fits.withdraws {len = len} {k = kept_in_c rows lasts} {w = w} {r = done} refl refl) (ap (λ (d : desk.Day). d.row) day) (ap (λ (d : desk.Day). d.lasts) day)
-  by_event (Event.Board head turn) len room out room' out' p served =
+  by_event (Some (Event.Board head turn)) len room out room' out' p served =
       let b : Boarding = record { head = head; turn = turn; lasts = lasts_in lasts } in
       let done = p.done in
       let day = day_is (day_at rows lasts) _ room out r room' out' p.answers served in
       let passes = (told_so (day_at rows lasts) _ room out r room' out' p.answers served).0 in
-      left_so (Event.Board head turn) (Call.boarding len tape b (rows_lent room) p.rows done) IsCall.a_boarding (accepts done.boarded.answer.refusal passes)
+      left_so (Some (Event.Board head turn)) (Call.boarding len tape b (rows_lent room) p.rows done) IsCall.a_boarding (accepts done.boarded.answer.refusal passes)
       (sound_at rows rows lasts len (board_accepted len tape (table_at rows) b (rows_lent room) p.rows done p.boards passes)) done.row done.boarded.lasts
       (Fits.boards {len = len} {tape = tape} {k = kept_in_c rows lasts} {b = b} {before = rows_lent room} {after = p.rows} {r = done} refl p.boards) (ap (λ (d : desk.Day). d.row) day) (ap (λ (d : desk.Day). d.lasts) day)
-  by_event Event.Bad len room out room' out' p served = absurd (true≢false (ap is_refusal (ap (λ (x : Answered). x.verdict.refusal) (sym p.says) ∙ served)))
+  by_event None len room out room' out' p served = absurd (true≢false (ap is_refusal (ap (λ (x : Answered). x.verdict.refusal) (sym p.says) ∙ served)))
 
 -- Written into the rows.
-landed : (tape : Tape) (e : Event) (rows rows' : List (List ℕ)) (lasts lasts' : List ℕ) (r : Answered) → Accepts tape e rows lasts r → rows' ≡ records_with r.day.row rows → lasts' ≡ with_lasts r.day.lasts lasts
+landed : (tape : Tape) (e : Option Event) (rows rows' : List (List ℕ)) (lasts lasts' : List ℕ) (r : Answered) → Accepts tape e rows lasts r → rows' ≡ records_with r.day.row rows → lasts' ≡ with_lasts r.day.lasts lasts
     → EventIsACall tape e rows rows' lasts lasts'
 landed tape e rows rows' lasts lasts' r a rows_are Lasts-are =
     record {
@@ -127,6 +128,6 @@ event_call_is_a_call rows rows' lasts lasts' line out out' room room' sizes size
 
 pub no_event_called : NoEventCalled
 no_event_called rows rows' lasts lasts' line out out' room room' sizes sizes' tape code called is =
-    let none : EventAnswered (places_if 1 sizes (places_if 2 lasts (length rows))) tape (day_at rows lasts) room out Event.Bad called.done room' out'
+    let none : EventAnswered (places_if 1 sizes (places_if 2 lasts (length rows))) tape (day_at rows lasts) room out None called.done room' out'
     = subst (λ e. EventAnswered (places_if 1 sizes (places_if 2 lasts (length rows))) tape (day_at rows lasts) room out e called.done room' out') is called.answers in
     called.says ∙ ap (λ (x : Answered). code_of x.verdict) none.says

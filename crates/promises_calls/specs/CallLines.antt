@@ -1,10 +1,9 @@
 -- What counts as one line of an event, and who waits, line by line.
-use Rattle.std.specs.Prelude.{ℕ, suc, ◌+◌, ◌/◌, ◌≡◌, List, [], ◌∷◌, ◌++◌, length}
+use Rattle.std.specs.Prelude.{ℕ, suc, ◌+◌, ◌/◌, ◌≡◌, List, [], ◌∷◌, ◌++◌, length, None}
 use Rattle.text_bytes.specs.Text.{bytes, decimal}
 use Rattle.text_lines.specs.Lines.{line_of}
 use Rattle.desk_tickets.specs.declared.Ticket.{Ticket}
 use Rattle.desk_tickets.specs.WaitingTable.{waiting}
-use Rattle.answer_desk.specs.declared.Event.{Event}
 use Rattle.answer_desk.specs.Events.{event_of}
 use Rattle.desk_waits.specs.Waits.{waiting_text}
 use Rattle.boundary_desk.specs.Calls.{one_line}
@@ -18,7 +17,7 @@ pub record IsOneLine (bytes : List ℕ) : Type 0 where
   pub is : bytes ≡ text ++ (10 ∷ [])
 
 abbrev pub OneLineIsTaken : Type 0
-OneLineIsTaken = (line : List ℕ) → (IsOneLine line → one_line line ≡ line) × ((IsOneLine line → ⊥) → event_of (line_of (one_line line)) ≡ Event.Bad)
+OneLineIsTaken = (line : List ℕ) → (IsOneLine line → one_line line ≡ line) × ((IsOneLine line → ⊥) → event_of (line_of (one_line line)) ≡ None)
 
 -- The text: `waits=OFFICE,NUMBER,FILE,COUNT,AHEAD,BOARDINGS` for each ticket of office 1, in order of filing, then for each of office 2; and `waiting=N1,N2`.
 abbrev pub waits_on : ℕ → Ticket → List ℕ

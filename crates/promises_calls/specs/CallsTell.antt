@@ -1,6 +1,6 @@
 -- What an accepted call for tickets tells, beside the records that it leaves: the number that a filing is given; of a boarding how many left of each office and the want of each, and
 -- the plan's four numbers; the text of an event at the desk; and who waits. Later words of each row stay as they were.
-use Rattle.std.specs.Prelude.{ℕ, suc, ◌<◌, ◌≡◌, List, [], ◌∷◌, ◌++◌, length, get_or, take, drop}
+use Rattle.std.specs.Prelude.{ℕ, suc, ◌<◌, ◌≡◌, List, [], ◌∷◌, ◌++◌, length, get_or, take, drop, Option, None}
 use Rattle.refusals.specs.declared.Refusal.TheVariants.{Accepted}
 use Rattle.runs.specs.Run.{Run}
 use Rattle.text_lines.specs.Lines.{line_of}
@@ -85,7 +85,7 @@ CallAccepts (filing len f r) = r.filed.verdict.refusal ≡ Accepted
 CallAccepts (withdrawal len w r) = r.withdrawn.verdict.refusal ≡ Accepted
 CallAccepts (boarding len tape b before after r) = r.boarded.answer.refusal ≡ Accepted
 
-pub record EventIsACall (tape : Tape) (e : Event) (rows rows' : List (List ℕ)) (lasts lasts' : List ℕ) : Type 0 where
+pub record EventIsACall (tape : Tape) (e : Option Event) (rows rows' : List (List ℕ)) (lasts lasts' : List ℕ) : Type 0 where
   pub call : Call
   pub is : IsCall tape e call
   pub accepts : CallAccepts call
@@ -105,7 +105,7 @@ abbrev pub NoEventCalled : Type 0
 NoEventCalled =
     (rows rows' : List (List ℕ)) (lasts lasts' line out out' room room' sizes sizes' : List ℕ) (tape : Tape) (code : ℕ)
     → EventCalled rows lasts tape line out room sizes code rows' lasts' out' room' sizes'
-    → event_of (line_of (one_line line)) ≡ Event.Bad
+    → event_of (line_of (one_line line)) ≡ None
     → code ≡ 11
 
 -- Who waits: the text of the table in the row's first bytes, and how long it is; refused, both rows as they were.

@@ -1,2 +1,3 @@
 -- Laws of verdicts, which every crate that judges cites.
 pub mod Verdicts
+pub mod Checked

@@ -1,5 +1,5 @@
 -- The refusal table of document 01 and of the requests after it: a number for each kind, a place for each verdict, and "the first that applies".
-use Rattle.std.specs.Prelude.{ℕ, suc, zero, Bool, true, false, not, cond, List, [], ◌∷◌, eqb}
+use Rattle.std.specs.Prelude.{ℕ, suc, zero, Result, Ok, Err, Bool, true, false, not, cond, List, [], ◌∷◌, eqb}
 use Rattle.refusals.specs.declared.Refusal.{Refusal}
 use Rattle.refusals.specs.declared.Refusal.TheVariants.{Accepted, FileRows, BadFile, WantRows, BadWant, TooManyReads, TurnPrice, HeadPlace, ShortRow, ShortRoom, BadEntry, BadLine, LongSheet, BadName, BadRule, BadTicket, OfficeFull, NotWaiting, NumbersSpent, RetiredRule, BadText, ManyExtents, Overlap, FarFile, OverEightWants, BadSheetCount, BadRecord}
 use Rattle.refusals.specs.declared.OwnRefusal.{OwnRefusal}
@@ -50,6 +50,10 @@ is_refusal kind = not (eqb (number_of kind) 0)
 -- A check that finds nothing.
 abbrev pub accepted : Verdict
 accepted = record { refusal = Accepted; place = 0 }
+
+-- A verdict as the answer of a check: nothing, or the verdict that refuses.
+abbrev pub checked : Verdict → Result Unit Verdict
+checked v = cond (is_refusal v.refusal) (Err v) (Ok tt)
 
 -- A check whose refusal has no place of its own.
 abbrev pub refuse_if : Bool → Refusal → Verdict

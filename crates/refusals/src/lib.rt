@@ -3,51 +3,52 @@
 #![tactic(auto)]
 
 ghost use Rattle.std.specs.Prelude.{◌≡◌};
-ghost use Rattle.refusals.specs.Refusals.{number_of, own_number_of, is_refusal, refuse_if, refuse_at};
+ghost use Rattle.refusals.specs.Refusals.{number_of, own_number_of, is_refusal, accepted, checked, refuse_if, refuse_at};
 
 // The kinds of document 01's refusal table and of the requests after it, in the order of their numbers.
-#[derive(Clone, Copy)]
+#[derive(Clone, Copy, PartialEq, Eq)]
 pub enum Refusal {
-    Accepted,
-    FileRows,
-    BadFile,
-    WantRows,
-    BadWant,
-    TooManyReads,
-    TurnPrice,
-    HeadPlace,
-    ShortRow,
-    ShortRoom,
-    BadEntry,
-    BadLine,
-    LongSheet,
-    BadName,
-    BadRule,
-    BadTicket,
-    OfficeFull,
-    NotWaiting,
-    NumbersSpent,
-    RetiredRule,
-    BadText,
-    ManyExtents,
-    Overlap,
-    FarFile,
-    OverEightWants,
-    BadSheetCount,
-    BadRecord,
+    Accepted = 0,
+    FileRows = 1,
+    BadFile = 2,
+    WantRows = 3,
+    BadWant = 4,
+    TooManyReads = 5,
+    TurnPrice = 6,
+    HeadPlace = 7,
+    ShortRow = 8,
+    ShortRoom = 9,
+    BadEntry = 10,
+    BadLine = 11,
+    LongSheet = 12,
+    BadName = 13,
+    BadRule = 14,
+    BadTicket = 15,
+    OfficeFull = 16,
+    NotWaiting = 17,
+    NumbersSpent = 18,
+    RetiredRule = 19,
+    BadText = 20,
+    ManyExtents = 21,
+    Overlap = 22,
+    FarFile = 23,
+    OverEightWants = 24,
+    BadSheetCount = 25,
+    BadRecord = 26,
 }
 
 // The kinds of our own part of the table, which begins at 41: they occur in our own commands and calls alone. Kept apart, so that nothing that 01 or a request
 // orders can answer by one of them.
-#[derive(Clone, Copy)]
+#[derive(Clone, Copy, PartialEq, Eq)]
 pub enum OwnRefusal {
-    UnknownPath,
-    NoBytes,
-    OtherWindow,
-    OtherVolume,
+    UnknownPath = 41,
+    NoBytes = 42,
+    OtherWindow = 43,
+    OtherVolume = 44,
 }
 
 // What a check finds: a kind, and the file, want, entry or line it speaks of, counted from 1 (0: none).
+// Stays: place 0 and no Option, since the refusal table counts so, in `refuse_at` and in what C programs are told.
 #[derive(Clone, Copy)]
 pub struct Verdict {
     pub refusal: Refusal,
@@ -55,49 +56,67 @@ pub struct Verdict {
 }
 
 // The number that the paper gives a kind of refusal; 0 for none.
+// Stays: a function and no From, since AUDIT names it, edits stand on it, and C programs are told the number by it.
 pub fn number(kind: Refusal) -> u64
     ensures { result ≡ number_of kind }
 {
-    match kind {
-        Refusal::Accepted => 0,
-        Refusal::FileRows => 1,
-        Refusal::BadFile => 2,
-        Refusal::WantRows => 3,
-        Refusal::BadWant => 4,
-        Refusal::TooManyReads => 5,
-        Refusal::TurnPrice => 6,
-        Refusal::HeadPlace => 7,
-        Refusal::ShortRow => 8,
-        Refusal::ShortRoom => 9,
-        Refusal::BadEntry => 10,
-        Refusal::BadLine => 11,
-        Refusal::LongSheet => 12,
-        Refusal::BadName => 13,
-        Refusal::BadRule => 14,
-        Refusal::BadTicket => 15,
-        Refusal::OfficeFull => 16,
-        Refusal::NotWaiting => 17,
-        Refusal::NumbersSpent => 18,
-        Refusal::RetiredRule => 19,
-        Refusal::BadText => 20,
-        Refusal::ManyExtents => 21,
-        Refusal::Overlap => 22,
-        Refusal::FarFile => 23,
-        Refusal::OverEightWants => 24,
-        Refusal::BadSheetCount => 25,
-        Refusal::BadRecord => 26,
-    }
+    kind as u64
 }
 
 // The number of a kind of our own part.
-pub fn own_number(kind: OwnRefusal) -> u64
-    ensures { result ≡ own_number_of kind }
+// Stays: as number.
+pub fn own_number(own: OwnRefusal) -> u64
+    ensures { result ≡ own_number_of own }
 {
-    match kind {
-        OwnRefusal::UnknownPath => 41,
-        OwnRefusal::NoBytes => 42,
-        OwnRefusal::OtherWindow => 43,
-        OwnRefusal::OtherVolume => 44,
+    own as u64
+}
+
+impl Verdict {
+    // A kind at a place.
+    fn of(refusal: Refusal, place: u64) -> Verdict
+        ensures { result ≡ record { refusal = refusal; place = place } }
+    {
+        Verdict { refusal, place }
+    }
+
+    // What a check finds that finds nothing.
+    pub fn accepted() -> Verdict
+        ensures { result ≡ accepted }
+    {
+        Verdict::of(Refusal::Accepted, 0)
+    }
+
+    // Nothing where the verdict accepts, and the verdict itself where it refuses, for `?` to hand on.
+    pub fn told(self) -> Result<(), Verdict>
+        ensures { result ≡ checked self }
+    {
+        if self.refusal == Refusal::Accepted {
+            return Ok(());
+        }
+        Err(self)
+    }
+}
+
+impl Refusal {
+    // Refuses where something is bad. Such a refusal has no place of its own.
+    pub fn when(self, bad: bool) -> Result<(), Verdict>
+        ensures { result ≡ checked (refuse_if bad self) }
+    {
+        if bad {
+            return Verdict::of(self, 0).told();
+        }
+        Ok(())
+    }
+
+    // Refuses at the first bad file, want, entry or line; place 0 where there is none.
+    // Stays: 0 and no Option, as in `refuse_at`.
+    pub fn at(self, place: u64) -> Result<(), Verdict>
+        ensures { result ≡ checked (refuse_at place self) }
+    {
+        if place == 0 {
+            return Ok(());
+        }
+        Verdict::of(self, place).told()
     }
 }
 
@@ -105,38 +124,26 @@ pub fn own_number(kind: OwnRefusal) -> u64
 pub fn refused(v: Verdict) -> bool
     ensures { result ≡ is_refusal (v.refusal) }
 {
-    let kind = v.refusal;
-    number(kind) != 0
+    v.refusal != Refusal::Accepted
 }
 
 // A check whose refusal has no place of its own.
 pub fn refuse_if(bad: bool, kind: Refusal) -> Verdict
     ensures { result ≡ refuse_if bad kind }
 {
-    if bad {
-        return Verdict {
-            refusal: kind, // and no place
-            place: 0,
-        };
-    }
-    Verdict {
-        refusal: Refusal::Accepted,
-        place: 0,
+    match bad {
+        true => Verdict::of(kind, 0),
+        false => Verdict::accepted(),
     }
 }
 
 // A check that names the first bad file, want, entry or line; place 0 where there is none.
+// Stays: 0 and no Option, since `refuse_at` of the refusal table counts so.
 pub fn refuse_at(place: u64, kind: Refusal) -> Verdict
     ensures { result ≡ refuse_at place kind }
 {
-    if place == 0 {
-        return Verdict {
-            refusal: Refusal::Accepted,
-            place: 0,
-        };
-    }
-    Verdict {
-        refusal: kind,
-        place,
+    match place {
+        0 => Verdict::accepted(),
+        _ => Verdict::of(kind, place),
     }
 }

@@ -1,19 +1,19 @@
 -- The loops that look for a bad file and a bad want, and what is known of a file or a want that is not bad.
-use Prim.Native.Nat.{ℕ, ◌+◌, ◌-◌, ◌≤◌, ◌<◌}
+use Prim.Native.Nat.{ℕ, ◌+◌, ◌≤◌, ◌<◌}
 use mathlib.Core.Path.{◌≡◌, refl, sym, ◌∙◌}
 use mathlib.Core.Bool.{Bool, true, false, ◌||◌}
 use mathlib.Core.List.{List}
 use native.Mathlib.Omega.{arith}
 use native.Mathlib.Numerals.{add-one}
-use lib.ListN.{length, get_or, drop, drop_of_length-le}
+use lib.ListN.{length, get_or, drop}
 use lib.Seq.{drop-cons}
 use lib.Dec.{ltb, leb, eqb}
-use borrow.Author.Tests.{eqb-false, ltb-false, leb-false, lt-ltb, le-ltb, lt-leb, ne_eqb}
+use borrow.Author.Tests.{eqb-false, ltb-false, leb-false, le-ltb, lt-leb, ne_eqb}
 use Rattle.refusals.specs.Refusals.{first_where}
 use Rattle.runs.specs.Run.{end_at, last_place, most_reads, total}
 use Rattle.runs.specs.Rows.{counted_reads}
 use Rattle.runs.specs.Judging.{bad_place, bad_want, end_before, number_before}
-use Rattle.runs.proofs.Search.{first_more, first_here, or_false_both}
+use Rattle.runs.proofs.Search.{first_none, first_more, first_here, or_false_both}
 
 -- A test of `==` that fails against 0.
 not_zero : (n : ℕ) → eqb n 0 ≡ false → 0 < n
@@ -40,6 +40,9 @@ pub record FilesPassed (starts lengths : List ℕ) (before i : ℕ) : Type 0 whe
   pub within : i ≤ length starts
   pub last : before ≡ end_before starts lengths i
   pub none : first_where (bad_place starts lengths) i ≡ 0
+
+pub files_none : (starts lengths : List ℕ) → FilesPassed starts lengths 0 0
+files_none starts lengths = record { within = omega arith; last = refl; none = first_none (bad_place starts lengths) }
 
 module _ (starts lengths : List ℕ) (before i : ℕ) (p : FilesPassed starts lengths before i) (l : i < length starts) (t : Bool)
     (test : t ≡ (eqb (get_or lengths i 0) 0 || ltb (get_or starts i 0) before || ltb last_place (get_or starts i 0 + get_or lengths i 0))) where
@@ -103,6 +106,9 @@ pub record WantsPassed (files : ℕ) (numbers counts : List ℕ) (before i : ℕ
   pub last : before ≡ number_before numbers i
   pub none : first_where (bad_want files numbers counts) i ≡ 0
 
+pub wants_none : (files : ℕ) (numbers counts : List ℕ) → WantsPassed files numbers counts 0 0
+wants_none files numbers counts = record { within = omega arith; last = refl; none = first_none (bad_want files numbers counts) }
+
 module _ (files : ℕ) (numbers counts : List ℕ) (before i : ℕ) (p : WantsPassed files numbers counts before i) (l : i < length numbers) (t : Bool)
     (test : t ≡ (eqb (get_or numbers i 0) 0 || ltb files (get_or numbers i 0) || leb (get_or numbers i 0) before || eqb (get_or counts i 0) 0)) where
   want_tested : bad_want files numbers counts i ≡ t
@@ -129,26 +135,6 @@ pub record Counted (counts : List ℕ) (sum i : ℕ) : Type 0 where
 pub total_drop : (counts : List ℕ) (i : ℕ) → i < length counts → total (drop i counts) ≡ get_or counts i 0 + total (drop (i + 1) counts)
 total_drop counts i l = rw (add-one, drop-cons counts i 0)
 
-pub total_end : (counts : List ℕ) (i : ℕ) → length counts ≤ i → total (drop i counts) ≡ 0
-total_end counts i l = rw (drop_of_length-le counts l)
-
-module _ (counts : List ℕ) (sum i : ℕ) (p : Counted counts sum i) (l : i < length counts) where
-  pub over_limit : most_reads - sum < get_or counts i 0 → true ≡ ltb most_reads (total counts)
-  over_limit h = sym (lt-ltb most_reads (total counts) (omega (arith, total_drop counts i l)))
-
-  pub counted_more : get_or counts i 0 ≤ most_reads - sum → Counted counts (sum + get_or counts i 0) (i + 1)
-  counted_more h = record { within = omega arith; small = omega arith; whole = omega (arith, total_drop counts i l) }
-
-pub within_limit : (counts : List ℕ) (sum i : ℕ) → Counted counts sum i → length counts ≤ i → false ≡ ltb most_reads (total counts)
-within_limit counts sum i p l = sym (le-ltb most_reads (total counts) (omega (arith, total_end counts i l)))
-
--- Within the limit the count is exact; and it passes the limit where the reads do.
+-- Within the limit the count is exact.
 pub counted_exact : (counts : List ℕ) → total counts ≤ most_reads → counted_reads counts ≡ total counts
 counted_exact counts h = rw (le-ltb most_reads (total counts) h)
-
-pub counted_over : (counts : List ℕ) → ltb most_reads (counted_reads counts) ≡ ltb most_reads (total counts)
-counted_over counts = go (ltb most_reads (total counts)) refl
-  where
-    go : (b : Bool) → ltb most_reads (total counts) ≡ b → ltb most_reads (counted_reads counts) ≡ ltb most_reads (total counts)
-    go true e = rw e
-    go false e = rw e e

@@ -1,7 +1,7 @@
 -- Files that lie in no aggregate: with a row of zeros every verdict and every stop is what it was before there were aggregates.
 use Prim.Native.Nat.{ℕ, zero, suc, ◌-◌, ◌≤◌, ◌<◌}
 use mathlib.Core.Path.{◌≡◌, refl, sym, ap, ◌∙◌}
-use mathlib.Core.Bool.{Bool, true, false, not, cond, ◌||◌, or-false}
+use mathlib.Core.Bool.{true, false, not, cond, ◌||◌, or-false}
 use mathlib.Core.Logic.{⊎_elim}
 use mathlib.Core.List.{List, [], ◌∷◌}
 use native.Mathlib.Omega.{arith}
@@ -13,9 +13,10 @@ use borrow.Author.Tests.{eq-eqb}
 use Rattle.refusals.specs.declared.Refusal.TheVariants.{FileRows, BadFile}
 use Rattle.refusals.specs.declared.Verdict.{Verdict}
 use Rattle.refusals.specs.Refusals.{refuse_if, refuse_at, first_of, first_where}
-use Rattle.refusals.specs.Refusals.{is_refusal}
+use Rattle.refusals.specs.Refusals.{checked}
+use Rattle.std.specs.Prelude.{Result, Ok, Err}
 use Rattle.refusals.proofs.Verdicts.{refuses}
-use Rattle.runs.specs.Run.{Stop, goes_on, first_member, last_member, stop_of, want_stops, joined, stops_of, most_files}
+use Rattle.runs.specs.Run.{goes_on, first_member, last_member, stop_of, want_stops, joined, stops_of, most_files}
 use Rattle.runs.specs.Judging.{right_end}
 use Rattle.runs.specs.Alone.{zeros, alone_of, lone_stop, lone_stops}
 use Rattle.runs.specs.Rows.{stop_at}
@@ -23,9 +24,9 @@ use Rattle.runs.specs.Judging.{bad_place, bad_number, bad_file, table_checks, wa
 use Rattle.runs.specs.Alone.{place_checks, judge_alone}
 use Rattle.runs.proofs.Search.{first_same, true_or_false}
 use Rattle.runs.proofs.Members.{first_stays, last_is}
-use Rattle.runs.proofs.Joined.{Next, Neighbours, Differ, joined_alone}
+use Rattle.runs.proofs.Joined.{Neighbours, Differ, joined_alone}
 use Rattle.runs.specs.Private.{SoundTable}
-use Rattle.runs.proofs.Judged.{GoodWants, GoodHead, three_accept, places_accepted, wants_accepted, head_accepted, accepted_places, accepted_wants, table_decides, wants_decide, head_decides}
+use Rattle.runs.proofs.Judged.{GoodWants, GoodHead, three_accept, places_accepted, wants_accepted, head_accepted, accepted_wants, by_table, by_wants, by_head}
 
 zeros_length : (n : ℕ) → length (zeros n) ≡ n
 zeros_length n = length-replicate {A = ℕ} n 0
@@ -153,31 +154,29 @@ alone_accepted starts lengths numbers counts head turn few table wants place =
     (wants_accepted (length starts) numbers counts wants)
     (head_accepted turn head (right_end (lone_stops starts lengths numbers counts)) place)
 
--- The three steps of judging, as the code takes them.
-module _ (starts lengths numbers counts : List ℕ) (head turn : ℕ) (t : Verdict) (f : Bool)
-    (t-is : t ≡ first_of (place_checks starts lengths)) (f-is : f ≡ is_refusal t.refusal) where
-  pub places_decide : f ≡ true → t ≡ judge_of (alone_of starts lengths numbers counts head turn)
+-- The three checks, each handed on by `?`.
+module _ (starts lengths numbers counts : List ℕ) (head turn : ℕ) where
+  abbrev of_table : Verdict
+  of_table = first_of (place_checks starts lengths)
+
+  abbrev of_wants : Verdict
+  of_wants = first_of (wants_checks (length starts) numbers counts)
+
+  abbrev of_head : Verdict
+  of_head = first_of (head_checks turn head (right_end (lone_stops starts lengths numbers counts)))
+
+  alone_says : (x : Result Unit Verdict) → x ≡ checked (first_of (of_table ∷ of_wants ∷ of_head ∷ [])) → x ≡ checked (judge_of (alone_of starts lengths numbers counts head turn))
   unfolding judge_alone
-  places_decide e =
-      table_decides (first_of (place_checks starts lengths)) (first_of (wants_checks (length starts) numbers counts)) (head_checks turn head (right_end (lone_stops starts lengths numbers counts)))
-      t f t-is f-is e
-      ∙ sym (alone_judged starts lengths numbers counts head turn)
+  alone_says x said = said ∙ ap checked (sym (alone_judged starts lengths numbers counts head turn))
 
-  pub places_sound : f ≡ false → SoundTable starts lengths
-  places_sound e = accepted_places starts lengths (rw (← t-is, ← f-is, e))
+  pub alone_by_table : (e : Verdict) → Err e ≡ checked (first_of (place_checks starts lengths)) → Err e ≡ checked (judge_of (alone_of starts lengths numbers counts head turn))
+  alone_by_table e said = alone_says (Err e) (by_table of_table of_wants of_head e said)
 
-  module _ (w : Verdict) (g : Bool) (w-is : w ≡ first_of (wants_checks (length starts) numbers counts)) (g-is : g ≡ is_refusal w.refusal) where
-    pub alone_wants_decide : f ≡ false → g ≡ true → w ≡ judge_of (alone_of starts lengths numbers counts head turn)
-    unfolding judge_alone
-    alone_wants_decide e d =
-        wants_decide (first_of (place_checks starts lengths)) (first_of (wants_checks (length starts) numbers counts)) (head_checks turn head (right_end (lone_stops starts lengths numbers counts)))
-        t f t-is f-is w g w-is g-is e d
-        ∙ sym (alone_judged starts lengths numbers counts head turn)
+  module _ (u : Unit) (passes : Ok u ≡ checked (first_of (place_checks starts lengths))) where
+    pub alone_by_wants : (e : Verdict) → Err e ≡ checked (first_of (wants_checks (length starts) numbers counts))
+        → Err e ≡ checked (judge_of (alone_of starts lengths numbers counts head turn))
+    alone_by_wants e said = alone_says (Err e) (by_wants of_table of_wants of_head u passes e said)
 
-    pub alone_head_decides : f ≡ false → g ≡ false
-        → first_of (head_checks turn head (right_end (lone_stops starts lengths numbers counts))) ≡ judge_of (alone_of starts lengths numbers counts head turn)
-    unfolding judge_alone
-    alone_head_decides e d =
-        head_decides (first_of (place_checks starts lengths)) (first_of (wants_checks (length starts) numbers counts)) (head_checks turn head (right_end (lone_stops starts lengths numbers counts)))
-        t f t-is f-is w g w-is g-is e d
-        ∙ sym (alone_judged starts lengths numbers counts head turn)
+    pub alone_by_head : (v : Unit) → Ok v ≡ checked (first_of (wants_checks (length starts) numbers counts)) → (x : Result Unit Verdict)
+        → x ≡ checked (first_of (head_checks turn head (right_end (lone_stops starts lengths numbers counts)))) → x ≡ checked (judge_of (alone_of starts lengths numbers counts head turn))
+    alone_by_head v on x said = alone_says x (by_head of_table of_wants of_head u passes v on x said)

@@ -2,7 +2,7 @@
 -- the same run with the head at the end of the tape, and what an accepted run is.
 use Prim.Native.Nat.{ℕ, zero, suc, ◌-◌, ◌≤◌, ◌<◌}
 use mathlib.Core.Path.{◌≡◌, refl, sym, ap, ◌∙◌}
-use mathlib.Core.Bool.{Bool, true, false, cond, not, ◌||◌, ◌&&◌, and-false}
+use mathlib.Core.Bool.{Bool, true, false, ◌||◌, and-false}
 use mathlib.Core.Logic.{⊎_elim, by_cases}
 use mathlib.Core.List.{List, [], ◌∷◌, map}
 use native.Mathlib.Omega.{arith}
@@ -10,21 +10,21 @@ use native.Mathlib.Decide.{dec_le, dec_lt}
 use lib.ListN.{length, get_or}
 use lib.Dec.{leb, ltb}
 use borrow.Author.Tests.{le-leb, lt-leb, le-ltb, lt-ltb}
-use Rattle.refusals.specs.declared.Refusal.TheVariants.{TurnPrice, HeadPlace}
+use Rattle.refusals.specs.declared.Refusal.TheVariants.{HeadPlace}
 use Rattle.refusals.specs.declared.Verdict.{Verdict}
-use Rattle.refusals.specs.Refusals.{refuse_if, first_of}
+use Rattle.refusals.specs.Refusals.{first_of}
 use Rattle.refusals.proofs.Verdicts.{refuses, first_refuses, first_passes, first_alone}
-use Rattle.runs.specs.Run.{Run, Stop, stops_of, merged, join_to, joined, last_place, highest_turn, last_member}
+use Rattle.runs.specs.Run.{Run, Stop, stops_of, join_to, joined, last_place, highest_turn, last_member}
 use Rattle.runs.specs.Rows.{stop_at}
 use Rattle.runs.specs.Judging.{right_end, table_checks, wants_checks, head_checks, judge_of}
 use Rattle.runs.specs.Lists.{Detour, list_of, wanted, leftmost, bad_entry, entry_of, first_bad_entry, list_verdict}
 use Rattle.runs.specs.AnyHead.{smaller, pulled_stop, pulled, head_any_checks, judge_any_of, lifted_head, lifted, past_head, bad_entry_any, first_bad_entry_any, list_verdict_any}
 use Rattle.runs.proofs.Search.{true_or_false, or_false_both, first_same}
 use Rattle.runs.proofs.Sound.{Sound}
-use Rattle.runs.proofs.Joined.{Next, Neighbours, Agree, by_name, join_none, join_same, join_other}
+use Rattle.runs.proofs.Joined.{Neighbours, Agree, by_name, join_none, join_same, join_other}
 use Rattle.runs.proofs.Table.{table_file}
 use Rattle.runs.proofs.Judged.{GoodTable, GoodWants, GoodRun, accepted_table, accepted_wants, accepted_run, wants_named}
-use Rattle.runs.proofs.Stops.{right_end_none, right_end_some, extent, run_sound}
+use Rattle.runs.proofs.Stops.{right_end_none, right_end_some, extent}
 
 -- The smaller of two.
 pub smaller_first : (x y : ℕ) → x ≤ y → smaller x y ≡ x

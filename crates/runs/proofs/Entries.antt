@@ -4,51 +4,26 @@ use mathlib.Core.Path.{◌≡◌, refl, ap, sym, ◌∙◌}
 use mathlib.Core.Bool.{Bool, true, false, not, ◌||◌, ◌&&◌, true≢false, or-true, and-false}
 use mathlib.Core.List.{List, [], ◌∷◌}
 use native.Mathlib.Omega.{arith}
-use native.Mathlib.Numerals.{add-one}
 use native.Mathlib.Decide.{dec_lt}
-use lib.ListN.{length, get_or, drop, drop_of_length-le}
-use lib.Seq.{drop-cons}
+use lib.ListN.{length, get_or, take}
+use Rattle.std.proofs.lemmas.Grind.{common_steps}
 use lib.Dec.{eqb, ltb, leb}
 use borrow.Author.Tests.{eqb-true, eq-eqb, leb-true, le-leb, not-true}
+use Rattle.std.specs.List.{list_any}
 use Rattle.refusals.specs.declared.Verdict.{Verdict}
 use Rattle.refusals.specs.Refusals.{first_where}
-use Rattle.runs.specs.Run.{goes_on, first_member, last_member, first_file, want_stops, joined}
+use Rattle.runs.specs.Run.{goes_on, first_member, first_file, want_stops, joined}
 use Rattle.runs.specs.Lists.{Detour, list_of, wanted, leftmost, bad_alone, bad_after, bad_entry, any_below, entry_of, first_bad_entry, list_verdict}
 use Rattle.runs.specs.Private.{last_file, some_between, row_named, row_entry, row_alone, row_clash, row_bad}
-use Rattle.runs.proofs.Search.{first_same, any_same, first_more, first_here, any_none, any_more, any_here, any_done, ltb_same, leb_not_ltb}
+use Rattle.runs.proofs.Search.{first_same, any_same, first_none, first_more, first_here, any_none, any_more, any_here, ltb_same, leb_not_ltb}
 use Rattle.runs.proofs.Members.{and_true_both, goes_on_zero, first_below, first_begins, first_on, first_is, last_above, last_on, member_last}
 use Rattle.runs.proofs.Joined.{wanted_joined, leftmost_joined}
 
--- Looking for a number between two: what is left to look at decides.
-pub record Looked (numbers : List ℕ) (low high i : ℕ) : Type 0 where
-  pub within : i ≤ length numbers
-  pub left : some_between (drop i numbers) low high ≡ some_between numbers low high
-
-between_drop : (numbers : List ℕ) (low high i : ℕ) → i < length numbers
-    → some_between (drop i numbers) low high ≡ ((leb low (get_or numbers i 0) && leb (get_or numbers i 0) high) || some_between (drop (i + 1) numbers) low high)
+-- Looking for a number between two, as `any` does.
+pub some_between-list_any : (numbers : List ℕ) (low high : ℕ) → list_any (λ n. leb low n && leb n high) numbers ≡ some_between numbers low high
 unfolding some_between
-between_drop numbers low high i l = rw (add-one, drop-cons numbers i 0)
-
-module _ (numbers : List ℕ) (low high i : ℕ) (p : Looked numbers low high i) where
-  module _ (l : i < length numbers) (t : Bool) (test : t ≡ (leb low (get_or numbers i 0) && leb (get_or numbers i 0) high)) where
-    pub between_here : t ≡ true → true ≡ some_between numbers low high
-    between_here e = rw (between_drop numbers low high i l, ← test, e) at p.left
-
-    pub looked_on : t ≡ false → Looked numbers low high (i + 1)
-    looked_on e = record { within = omega arith; left = rw (between_drop numbers low high i l, ← test, e) at p.left }
-
-  pub between_nowhere : length numbers ≤ i → false ≡ some_between numbers low high
-  unfolding some_between
-  between_nowhere l = rw (drop_of_length-le numbers l) at p.left
-
-pub looked_none : (numbers : List ℕ) (low high : ℕ) → Looked numbers low high 0
-looked_none [] low high = record { within = omega arith; left = refl }
-looked_none (n ∷ numbers) low high = record { within = omega arith; left = refl }
-
--- The last file, by the index.
-pub last_file_lem : (aggregates : List ℕ) (f : ℕ) → (f ≡ 0 → ⊥) → last_member aggregates (f - 1) + 1 ≡ last_file aggregates f
-last_file_lem aggregates zero some = absurd (some refl)
-last_file_lem aggregates (suc i) some = let e : suc i - 1 ≡ i = omega arith in rw (e, add-one)
+some_between-list_any [] low high = refl
+some_between-list_any (n ∷ numbers) low high = rw (some_between-list_any numbers low high)
 
 -- A row with a number between two is not empty.
 between_some : (numbers : List ℕ) (low high : ℕ) → some_between numbers low high ≡ true → 0 < length numbers
@@ -200,13 +175,17 @@ module _ (froms tos : List ℕ) (i : ℕ) where
     unclashed_more l e =
         record { within = omega arith; none = any_more (λ k. bad_after (row_entry froms tos k) (row_entry froms tos i)) j p.none (sym test ∙ e) }
 
-  pub unclashed_all : (j : ℕ) → Unclashed froms tos i j → i ≤ j → false ≡ row_clash froms tos i
-  unclashed_all j p l = any_done (λ k. bad_after (row_entry froms tos k) (row_entry froms tos i)) j i p.none p.within l
+-- What a loop over the entries before i reads at its turn k.
+pub earlier_number : (row : List ℕ) (i k n : ℕ) → (k < length (take i row)) → ((d : ℕ) → n ≡ get_or (take i row) k d) → (k < i) × (n ≡ get_or row k 0)
+earlier_number row i k n l e = let h = e 0 in grind (arith, common_steps)
 
 -- Before the entry at index i: none before it is bad.
 pub record EntriesPassed (aggregates numbers froms tos : List ℕ) (i : ℕ) : Type 0 where
   pub within : i ≤ length froms
   pub none : first_where (row_bad aggregates numbers froms tos) i ≡ 0
+
+pub entries_none : (aggregates numbers froms tos : List ℕ) → EntriesPassed aggregates numbers froms tos 0
+entries_none aggregates numbers froms tos = record { within = omega arith; none = first_none (row_bad aggregates numbers froms tos) }
 
 module _ (aggregates numbers froms tos : List ℕ) (i : ℕ) (p : EntriesPassed aggregates numbers froms tos i) (l : i < length froms) (t : Bool)
     (alone : t ≡ row_alone aggregates numbers (get_or froms i 0) (get_or tos i 0)) where

@@ -2,17 +2,16 @@
 -- Of stops alone: nothing here knows of tables, aggregates or wants.
 use Prim.Native.Nat.{ℕ, zero, suc, ◌+◌, ◌-◌, ◌≤◌, ◌<◌}
 use mathlib.Core.Path.{◌≡◌, refl, sym, ap, ◌∙◌}
-use mathlib.Core.Bool.{Bool, true, false, not, ◌||◌}
+use mathlib.Core.Bool.{true, false, not, ◌||◌}
 use mathlib.Core.Logic.{⊎_elim}
 use mathlib.Core.List.{List, [], ◌∷◌}
 use native.Mathlib.Omega.{arith}
 use native.Mathlib.Nat.{eq-or-lt_of_le, le_of_suc-le-suc}
 use native.Mathlib.Decide.{dec_lt}
-use lib.ListN.{length, get_or}
-use lib.Dec.{ltb, leb, eqb}
+use lib.ListN.{length}
+use lib.Dec.{ltb, leb}
 use borrow.Author.Tests.{eq-eqb, ne_eqb, ltb-false, leb-false, not-false}
 use Rattle.runs.specs.Run.{Stop}
-use Rattle.runs.specs.Judging.{right_end}
 use Rattle.runs.specs.Rows.{stop_at}
 use Rattle.runs.specs.Lists.{Detour, wanted, leftmost, bad_alone, bad_after, bad_entry, any_below, entry_of, first_bad_entry, WellFormed}
 use Rattle.runs.proofs.Search.{first_zero, any_zero, or_false_both}

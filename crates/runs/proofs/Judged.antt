@@ -1,7 +1,7 @@
 -- What each part of the judging decides, and what an accepted run is.
 use Prim.Native.Nat.{ℕ, zero, suc, ◌-◌, ◌≤◌, ◌<◌}
 use mathlib.Core.Path.{◌≡◌, refl, sym, ap, ◌∙◌}
-use mathlib.Core.Bool.{Bool, true, false, not, ◌||◌}
+use mathlib.Core.Bool.{Bool, false, not, ◌||◌}
 use mathlib.Core.Logic.{⊎_elim}
 use mathlib.Core.List.{List, [], ◌∷◌}
 use native.Mathlib.Omega.{arith}
@@ -12,14 +12,17 @@ use borrow.Author.Tests.{eqb-true, ltb-false, not-false, eq-eqb, le-ltb}
 use Rattle.refusals.specs.declared.Refusal.TheVariants.{FileRows, BadFile, WantRows, BadWant, TooManyReads, TurnPrice, HeadPlace}
 use Rattle.refusals.specs.declared.Refusal.{Refusal}
 use Rattle.refusals.specs.declared.Verdict.{Verdict}
-use Rattle.refusals.specs.Refusals.{is_refusal, refuse_if, refuse_at, first_of, first_where}
+use Rattle.refusals.specs.Refusals.{refuse_if, refuse_at, first_of, first_where}
 use Rattle.runs.specs.Run.{Run, stops_of, total, most_files, most_wants, most_reads, last_place, highest_turn}
 use Rattle.runs.specs.Judging.{right_end}
 use Rattle.runs.specs.Judging.{bad_place, bad_number, bad_file, bad_want, table_checks, wants_checks, head_checks, judge_of}
 use Rattle.runs.specs.Alone.{place_checks}
 use Rattle.runs.specs.Private.{SoundTable, InTable, earlier_of}
 use Rattle.runs.proofs.Search.{first_zero, first_all, first_either, or_false_both, below_or_here}
-use Rattle.refusals.proofs.Verdicts.{refuses, first_refuses, first_passes, first_alone, AllAccept, all_accept, accepts_if, accepts_at}
+use Rattle.std.specs.Prelude.{Result, Ok, Err}
+use Rattle.refusals.specs.Refusals.{checked}
+use Rattle.refusals.proofs.Checked.{first_stops, first_passes_on, last_decides}
+use Rattle.refusals.proofs.Verdicts.{refuses, AllAccept, all_accept, accepts_if, accepts_at}
 use Rattle.runs.proofs.Accepted.{GoodWant, good_want, want_good}
 
 -- Two rows of one length, at most so many.
@@ -123,56 +126,42 @@ accepted_run r e =
       start = accepted_head r.turn r.head (right_end (stops_of r)) all.1.1.0;
     }
 
--- Three verdicts in turn, as the code takes them: the table's, the wants' and the head's. Of the first two t and w are those found, f and g
--- whether they refuse.
-module _ (table wants : Verdict) (checks : List Verdict) (t : Verdict) (f : Bool) (t-is : t ≡ table) (f-is : f ≡ is_refusal t.refusal) where
-  table_says : (b : Bool) → f ≡ b → refuses table ≡ b
-  table_says b e = rw (← t-is, ← f-is, e)
+-- Three checks, each handed on by `?`: the table's, the wants' and the head's.
+module _ (table wants head : Verdict) where
+  pub by_table : (e : Verdict) → Err e ≡ checked table → Err e ≡ checked (first_of (table ∷ wants ∷ head ∷ []))
+  by_table e said = first_stops table (wants ∷ head ∷ []) e said
 
-  pub table_decides : f ≡ true → t ≡ first_of (table ∷ wants ∷ first_of checks ∷ [])
-  table_decides e = t-is ∙ first_refuses table (wants ∷ first_of checks ∷ []) (table_says true e)
+  module _ (u : Unit) (passes : Ok u ≡ checked table) where
+    pub by_wants : (e : Verdict) → Err e ≡ checked wants → Err e ≡ checked (first_of (table ∷ wants ∷ head ∷ []))
+    by_wants e said = first_passes_on table (wants ∷ head ∷ []) u (Err e) passes (first_stops wants (head ∷ []) e said)
 
-  module _ (w : Verdict) (g : Bool) (w-is : w ≡ wants) (g-is : g ≡ is_refusal w.refusal) where
-    wants_say : (b : Bool) → g ≡ b → refuses wants ≡ b
-    wants_say b e = rw (← w-is, ← g-is, e)
+    pub by_head : (v : Unit) → Ok v ≡ checked wants → (x : Result Unit Verdict) → x ≡ checked head → x ≡ checked (first_of (table ∷ wants ∷ head ∷ []))
+    by_head v on x said = first_passes_on table (wants ∷ head ∷ []) u x passes (first_passes_on wants (head ∷ []) v x on (last_decides head x said))
 
-    pub wants_decide : f ≡ false → g ≡ true → w ≡ first_of (table ∷ wants ∷ first_of checks ∷ [])
-    wants_decide e d =
-        w-is ∙ first_refuses wants (first_of checks ∷ []) (wants_say true d) ∙ sym (first_passes table (wants ∷ first_of checks ∷ []) (table_says false e))
+-- The same of a run.
+module _ (r : Run) where
+  abbrev of_table : Verdict
+  of_table = first_of (table_checks r.starts r.lengths r.aggregates)
 
-    pub head_decides : f ≡ false → g ≡ false → first_of checks ≡ first_of (table ∷ wants ∷ first_of checks ∷ [])
-    head_decides e d =
-        sym (first_alone checks)
-        ∙ sym (first_passes wants (first_of checks ∷ []) (wants_say false d))
-        ∙ sym (first_passes table (wants ∷ first_of checks ∷ []) (table_says false e))
+  abbrev of_wants : Verdict
+  of_wants = first_of (wants_checks (length r.starts) r.numbers r.counts)
 
--- The same of a run, and what is known after each.
-module _ (r : Run) (t : Verdict) (f : Bool) (t-is : t ≡ first_of (table_checks r.starts r.lengths r.aggregates)) (f-is : f ≡ is_refusal t.refusal) where
-  pub run_table_decides : f ≡ true → t ≡ judge_of r
+  abbrev of_head : Verdict
+  of_head = first_of (head_checks r.turn r.head (right_end (stops_of r)))
+
+  pub judged_by_table : (e : Verdict) → Err e ≡ checked (first_of (table_checks r.starts r.lengths r.aggregates)) → Err e ≡ checked (judge_of r)
   unfolding judge_of
-  run_table_decides e =
-      table_decides (first_of (table_checks r.starts r.lengths r.aggregates)) (first_of (wants_checks (length r.starts) r.numbers r.counts)) (head_checks r.turn r.head (right_end (stops_of r)))
-      t f t-is f-is e
+  judged_by_table = by_table of_table of_wants of_head
 
-  pub run_table_good : f ≡ false → GoodTable r.starts r.lengths r.aggregates
-  run_table_good e = accepted_table r.starts r.lengths r.aggregates (rw (← t-is, ← f-is, e))
-
-  module _ (w : Verdict) (g : Bool) (w-is : w ≡ first_of (wants_checks (length r.starts) r.numbers r.counts)) (g-is : g ≡ is_refusal w.refusal) where
-    pub run_wants_decide : f ≡ false → g ≡ true → w ≡ judge_of r
+  module _ (u : Unit) (passes : Ok u ≡ checked (first_of (table_checks r.starts r.lengths r.aggregates))) where
+    pub judged_by_wants : (e : Verdict) → Err e ≡ checked (first_of (wants_checks (length r.starts) r.numbers r.counts)) → Err e ≡ checked (judge_of r)
     unfolding judge_of
-    run_wants_decide e d =
-        wants_decide (first_of (table_checks r.starts r.lengths r.aggregates)) (first_of (wants_checks (length r.starts) r.numbers r.counts)) (head_checks r.turn r.head (right_end (stops_of r)))
-        t f t-is f-is w g w-is g-is e d
+    judged_by_wants = by_wants of_table of_wants of_head u passes
 
-    pub run_head_decides : f ≡ false → g ≡ false → first_of (head_checks r.turn r.head (right_end (stops_of r))) ≡ judge_of r
+    pub judged_by_head : (v : Unit) → Ok v ≡ checked (first_of (wants_checks (length r.starts) r.numbers r.counts))
+        → (x : Result Unit Verdict) → x ≡ checked (first_of (head_checks r.turn r.head (right_end (stops_of r)))) → x ≡ checked (judge_of r)
     unfolding judge_of
-    run_head_decides e d =
-        head_decides (first_of (table_checks r.starts r.lengths r.aggregates)) (first_of (wants_checks (length r.starts) r.numbers r.counts)) (head_checks r.turn r.head (right_end (stops_of r)))
-        t f t-is f-is w g w-is g-is e d
-
-pub wants_passed : (files : ℕ) (numbers counts : List ℕ) (w : Verdict) (g : Bool) → w ≡ first_of (wants_checks files numbers counts) → g ≡ is_refusal w.refusal → g ≡ false
-    → GoodWants files numbers counts
-wants_passed files numbers counts w g w-is g-is d = accepted_wants files numbers counts (rw (← w-is, ← g-is, d))
+    judged_by_head = by_head of_table of_wants of_head u passes
 
 -- Accepted wants name files of the table.
 pub wants_named : (starts numbers counts : List ℕ) → GoodWants (length starts) numbers counts → (i : ℕ) → i < length numbers → InTable starts (get_or numbers i 0)

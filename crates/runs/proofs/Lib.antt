@@ -12,3 +12,4 @@ pub mod Alone
 pub mod Entries
 pub mod Formed
 pub mod AnyHead
+pub mod Pairs

@@ -11,8 +11,8 @@ use native.Mathlib.Decide.{dec_lt}
 use native.Mathlib.Numerals.{add-one}
 use lib.ListN.{length, get_or, get_or-eq_default}
 use lib.Dec.{eqb}
-use borrow.Author.Tests.{eqb-true, eqb-false, eq-eqb, ne_eqb, not-true, not-false}
-use Rattle.runs.specs.Run.{goes_on, first_member, last_within, last_member, first_file}
+use borrow.Author.Tests.{eqb-true, eqb-false, not-true}
+use Rattle.runs.specs.Run.{goes_on, first_member, last_within, last_member}
 use Rattle.runs.proofs.Search.{true_or_false}
 
 pub and_true_both : (a b : Bool) → (a && b) ≡ true → (a ≡ true) × (b ≡ true)
@@ -27,10 +27,6 @@ module _ (aggregates : List ℕ) where
       let both = and_true_both (not (eqb (get_or aggregates (suc i) 0) 0)) (eqb (get_or aggregates i 0) (get_or aggregates (suc i) 0)) e in
       let some : get_or aggregates (suc i) 0 ≡ 0 → ⊥ = eqb-false (get_or aggregates (suc i) 0) 0 (not-true (eqb (get_or aggregates (suc i) 0) 0) both.0) in
       (eqb-true _ _ both.1, omega arith)
-
-  pub goes_on_when : (i : ℕ) → get_or aggregates i 0 ≡ get_or aggregates (suc i) 0 → 0 < get_or aggregates (suc i) 0 → goes_on aggregates (suc i) ≡ true
-  unfolding goes_on
-  goes_on_when i e l = rw (ne_eqb (get_or aggregates (suc i) 0) 0 (omega arith), eq-eqb _ _ e)
 
   -- The first entry does not go on, and none past the row.
   pub goes_on_zero : goes_on aggregates 0 ≡ false
@@ -192,27 +188,28 @@ module _ (aggregates : List ℕ) where
           across a = absurd (true≢false (sym (first_on j (suc (last_member aggregates i)) (omega arith) a) ∙ last_ends i))
 
 -- Going left from an entry as long as entries go on, and right.
-pub first_before : (aggregates : List ℕ) (i j : ℕ) → 0 < j → first_member aggregates j ≡ first_member aggregates i → goes_on aggregates j ≡ true → first_member aggregates (j - 1) ≡ first_member aggregates i
-first_before aggregates i zero l e on = absurd (omega arith)
-first_before aggregates i (suc j) l e on = let k : suc j - 1 ≡ j = omega arith in rw k (sym (first_goes aggregates j on) ∙ e)
+pub goes_on_some : (aggregates : List ℕ) (i : ℕ) → goes_on aggregates i ≡ true → 0 < i
+goes_on_some aggregates zero on = absurd (true≢false (sym on ∙ goes_on_zero aggregates))
+goes_on_some aggregates (suc i) on = omega arith
 
-pub first_at_zero : (aggregates : List ℕ) (i j : ℕ) → j ≤ 0 → first_member aggregates j ≡ first_member aggregates i → j ≡ first_member aggregates i
-first_at_zero aggregates i zero l e = sym (first_stays aggregates 0 (goes_on_zero aggregates)) ∙ e
-first_at_zero aggregates i (suc j) l e = absurd (omega arith)
+pub first_back : (aggregates : List ℕ) (i : ℕ) → goes_on aggregates i ≡ true → first_member aggregates (i - 1) ≡ first_member aggregates i
+first_back aggregates zero on = absurd (true≢false (sym on ∙ goes_on_zero aggregates))
+first_back aggregates (suc i) on = let k : suc i - 1 ≡ i = omega arith in rw k (sym (first_goes aggregates i on))
 
 pub record GoneRight (aggregates : List ℕ) (i j : ℕ) : Type 0 where
   pub from : i ≤ j
   pub on : (k : ℕ) → i < k → k ≤ j → goes_on aggregates k ≡ true
 
-pub gone_none : (aggregates : List ℕ) (i : ℕ) → GoneRight aggregates i i
-gone_none aggregates i = record { from = omega arith; on = λ k a b. absurd (omega arith) }
-
-pub gone_more : (aggregates : List ℕ) (i j : ℕ) → GoneRight aggregates i j → goes_on aggregates (j + 1) ≡ true → GoneRight aggregates i (j + 1)
-gone_more aggregates i j g e =
-    record { from = omega (arith, g.from); on = λ k a b. ⊎_elim (λ (same : k ≡ j + 1). rw same e) (λ (less : k < j + 1). g.on k a (omega arith)) (eq-or-lt_of_le b) }
-
 pub gone_all : (aggregates : List ℕ) (i j : ℕ) → GoneRight aggregates i j → goes_on aggregates (j + 1) ≡ false → j ≡ last_member aggregates i
 gone_all aggregates i j g e = sym (last_is aggregates i j g.from g.on (rw add-one at e))
 
-pub gone_past : (aggregates : List ℕ) (i j : ℕ) → GoneRight aggregates i j → length aggregates ≤ j → j ≡ last_member aggregates i
+gone_past : (aggregates : List ℕ) (i j : ℕ) → GoneRight aggregates i j → length aggregates ≤ j → j ≡ last_member aggregates i
 gone_past aggregates i j g l = sym (last_is aggregates i j g.from g.on (goes_on_past aggregates (suc j) (omega arith)))
+
+-- A walk to the end of the row began past it.
+pub gone_nowhere : (aggregates : List ℕ) (i j : ℕ) → GoneRight aggregates i j → length aggregates ≤ j → i ≡ last_member aggregates i
+gone_nowhere aggregates i j g l =
+    elim (dec_lt i (length aggregates)) [
+      | yes h ↦ absurd (omega (arith, gone_past aggregates i j g l, last_within_lem aggregates i h))
+      | no n ↦ sym (last_past aggregates i (omega arith))
+    ]

@@ -1,22 +1,22 @@
 -- Aggregate numbers: the loop that looks for a bad one; and in an accepted table entries belong together where they have the same number.
 use Prim.Native.Nat.{ℕ, zero, suc, ◌+◌, ◌≤◌, ◌<◌}
 use mathlib.Core.Path.{◌≡◌, refl, sym, ◌∙◌}
-use mathlib.Core.Bool.{Bool, true, false, not, ◌||◌, ◌&&◌, true≢false}
+use mathlib.Core.Bool.{Bool, true, false, true≢false}
 use mathlib.Core.Logic.{⊎_elim, ◌⊎◌, inl, inr}
 use mathlib.Core.List.{List}
 use native.Mathlib.Omega.{arith}
-use native.Mathlib.Nat.{eq-or-lt_of_le, le_of_suc-le-suc}
+use native.Mathlib.Nat.{eq-or-lt_of_le}
 use native.Mathlib.Decide.{dec_lt}
 use lib.ListN.{length, get_or}
 use lib.Dec.{eqb, ltb}
 use borrow.Author.Tests.{ltb-false, lt-ltb, le-ltb, eq-eqb, ne_eqb}
 use Rattle.refusals.specs.Refusals.{first_where}
-use Rattle.runs.specs.Run.{goes_on, first_member, last_member, most_aggregates}
+use Rattle.runs.specs.Run.{goes_on, first_member, most_aggregates}
 use Rattle.runs.specs.Lists.{any_below}
 use Rattle.runs.specs.Judging.{returns, bad_number}
 use Rattle.runs.specs.Private.{Spanned}
-use Rattle.runs.proofs.Search.{first_more, first_here, or_false_both, true_or_false, any_here, any_none, any_more, below_or_here}
-use Rattle.runs.proofs.Members.{goes_on_same, goes_on_when, goes_on_zero, first_is, first_begins, first_on, first_below, first_goes}
+use Rattle.runs.proofs.Search.{first_none, first_more, first_here, or_false_both, true_or_false, any_here, below_or_here}
+use Rattle.runs.proofs.Members.{goes_on_same, first_is, first_begins, first_on, first_below}
 
 -- A number outside the bounds of those met was not met.
 none_met : (aggregates : List ℕ) (a i : ℕ) → ((j : ℕ) → j < i → get_or aggregates j 0 ≡ a → ⊥) → any_below (λ j. eqb (get_or aggregates j 0) a) i ≡ false
@@ -36,13 +36,7 @@ module _ (aggregates : List ℕ) (i : ℕ) where
   pub number_over : most_aggregates < get_or aggregates i 0 → true ≡ bad_number aggregates i
   number_over l = rw (lt-ltb most_aggregates (get_or aggregates i 0) l)
 
-  pub number_zero : get_or aggregates i 0 ≤ most_aggregates → get_or aggregates i 0 ≡ 0 → false ≡ bad_number aggregates i
-  number_zero l e = rw (le-ltb most_aggregates (get_or aggregates i 0) l, eq-eqb (get_or aggregates i 0) 0 e)
-
   module _ (l : get_or aggregates i 0 ≤ most_aggregates) (some : get_or aggregates i 0 ≡ 0 → ⊥) where
-    pub number_on : goes_on aggregates i ≡ true → false ≡ bad_number aggregates i
-    number_on e = rw (le-ltb most_aggregates (get_or aggregates i 0) l, ne_eqb (get_or aggregates i 0) 0 some, e)
-
     pub number_new : goes_on aggregates i ≡ false → (b : Bool) → b ≡ any_below (λ j. eqb (get_or aggregates j 0) (get_or aggregates i 0)) i → b ≡ bad_number aggregates i
     number_new e b met = rw (le-ltb most_aggregates (get_or aggregates i 0) l, ne_eqb (get_or aggregates i 0) 0 some, e) met
 
@@ -52,8 +46,13 @@ pub record NumbersPassed (aggregates : List ℕ) (low high i : ℕ) : Type 0 whe
   pub none : first_where (bad_number aggregates) i ≡ 0
   pub spanned : Spanned aggregates low high i
 
-pub spanned_none : (aggregates : List ℕ) (low high : ℕ) → Spanned aggregates low high 0
-spanned_none aggregates low high = record { above = λ j l. absurd (omega arith); below = λ j l. absurd (omega arith) }
+pub numbers_none : (aggregates : List ℕ) (low high : ℕ) → NumbersPassed aggregates low high 0
+numbers_none aggregates low high =
+    record {
+      within = omega arith;
+      none = first_none (bad_number aggregates);
+      spanned = record { above = λ j l. absurd (omega arith); below = λ j l. absurd (omega arith) };
+    }
 
 spanned_more : (aggregates : List ℕ) (low high i less more : ℕ) → Spanned aggregates low high i
     → (less ≤ low) × (0 < get_or aggregates i 0 → less ≤ get_or aggregates i 0) → (high ≤ more) × (get_or aggregates i 0 ≤ more)

@@ -9,6 +9,10 @@ use native.Mathlib.Numerals.{add-one}
 use native.Mathlib.Decide.{dec_lt}
 use lib.Dec.{ltb, leb}
 use borrow.Author.Tests.{lt-ltb, le-ltb, lt-leb, le-leb}
+use mathlib.Core.List.{List}
+use lib.ListN.{length, get_or, take}
+use Rattle.std.specs.List.{list_any}
+use Rattle.std.proofs.lemmas.List.Folds.{list_any_more}
 use Rattle.refusals.specs.Refusals.{first_where, one_more}
 use Rattle.runs.specs.Lists.{any_below}
 use Rattle.runs.specs.Private.{earlier_of}
@@ -115,9 +119,6 @@ module _ (bad : ℕ → Bool) where
   unfolding any_below
   any_more i none here = rw add-one (rw (none, here))
 
-  pub any_done : (i n : ℕ) → any_below bad i ≡ false → i ≤ n → n ≤ i → false ≡ any_below bad n
-  any_done i n none l r = let e : i ≡ n = omega arith in rw (← e, none)
-
   pub any_here : (i n : ℕ) → bad i ≡ true → i < n → any_below bad n ≡ true
   unfolding any_below
   any_here i zero here l = absurd (omega arith)
@@ -130,6 +131,12 @@ module _ (bad : ℕ → Bool) where
   any_zero (suc n) e i l =
       let s = or_false_both (any_below bad n) (bad n) e in
       ⊎_elim (λ same. rw same s.1) (λ lt. any_zero n s.0 i lt) (below_or_here n i l)
+
+-- The same over the first entries of a list.
+pub any_taken : (test : ℕ → Bool) (xs : List ℕ) (i : ℕ) → i ≤ length xs → any_below (λ j. test (get_or xs j 0)) i ≡ list_any test (take i xs)
+unfolding any_below
+any_taken test xs zero l = refl
+any_taken test xs (suc i) l = rw (any_taken test xs i (omega arith), ← add-one) (sym (list_any_more test xs i 0 (omega arith)))
 
 -- Tests that agree at every entry find the same.
 pub first_same : (f g : ℕ → Bool) (n : ℕ) → ((i : ℕ) → i < n → f i ≡ g i) → first_where f n ≡ first_where g n

@@ -20,9 +20,9 @@ use Rattle.runs.specs.Private.{SoundTable, InTable}
 use Rattle.runs.proofs.Search.{true_or_false}
 use Rattle.runs.proofs.Sound.{Sound}
 use Rattle.runs.proofs.Members.{first_below, first_stays, first_begins, last_above, last_within_lem, member_last, same_last, same_or_apart}
-use Rattle.runs.proofs.Joined.{Next, Neighbours, Agree, Places, Fine, Apart, Alike, Follows, AllFine, Strict, reads_of, right_joined, strict_joined, strict_sound, length_joined, reads_joined, place_by, place_joined, wanted_joined}
+use Rattle.runs.proofs.Joined.{Neighbours, Agree, Fine, Apart, Alike, Follows, AllFine, Strict, reads_of, right_joined, strict_joined, strict_sound, length_joined, reads_joined, place_by, place_joined, wanted_joined}
 use Rattle.runs.proofs.Table.{table_file, ends_rise, end_before_start}
-use Rattle.runs.proofs.Judged.{GoodTable, GoodWants, GoodRun, accepted_run, wants_named}
+use Rattle.runs.proofs.Judged.{GoodWants, GoodRun, accepted_run, wants_named}
 
 -- A file's first file, by the index.
 pub first_file_lem : (aggregates : List ℕ) (f : ℕ) → 0 < f → first_file aggregates f ≡ suc (first_member aggregates (f - 1))

@@ -6,6 +6,9 @@ use mathlib.Core.Logic.{⊎_elim}
 use native.Mathlib.Omega.{arith}
 use native.Mathlib.Nat.{eq-or-lt_of_le}
 use lib.ListN.{length, get_or}
+use Rattle.std.specs.Prelude.{Some, None}
+use Rattle.std.specs.List.{slice_get}
+use Rattle.std.proofs.lemmas.Option.{slice_get-get_or, slice_get_within, get_or_from_slice_get}
 use Rattle.runs.specs.Run.{end_at}
 use Rattle.runs.specs.Judging.{right_end}
 use Rattle.runs.specs.Alone.{lone_stops}
@@ -68,3 +71,19 @@ end_before_start starts lengths t i zero l h = absurd (omega arith)
 end_before_start starts lengths t i (suc j) l h =
     let rise = ends_rise starts lengths t i j (omega arith) (omega arith) in
     omega (arith, rise, (table_file starts lengths t (suc j) h).after)
+
+-- The last number of a row, as `last` finds it.
+pub last_none : (numbers : List ℕ) → None ≡ slice_get numbers (length numbers - 1) → length numbers ≡ 0
+last_none [] e = refl
+last_none (n ∷ numbers) e = absurd (cc (slice_get-get_or (n ∷ numbers) (length (n ∷ numbers) - 1) 0 (omega arith)))
+
+pub record Last (starts numbers : List ℕ) (f : ℕ) : Type 0 where
+  pub some : length numbers ≡ 0 → ⊥
+  pub is : get_or numbers (length numbers - 1) 0 ≡ f
+  pub in_table : InTable starts f
+
+pub last_some : (starts numbers : List ℕ) (f : ℕ) → Some f ≡ slice_get numbers (length numbers - 1) → ((i : ℕ) → i < length numbers → InTable starts (get_or numbers i 0)) → Last starts numbers f
+last_some starts numbers f e named =
+    let within = slice_get_within numbers (length numbers - 1) f (sym e) in
+    let at = get_or_from_slice_get numbers (length numbers - 1) f 0 (sym e) in
+    record { some = λ none. omega arith; is = at; in_table = rw at at (named (length numbers - 1) within) }

@@ -1,5 +1,5 @@
 -- The same notions read off the caller's rows, for the contracts of private functions. No public contract cites this file.
-use Rattle.std.specs.Prelude.{ℕ, zero, suc, ◌-◌, ◌<◌, ◌≤◌, ◌≡◌, Bool, false, not, cond, ◌||◌, ◌&&◌, List, [], ◌∷◌, length, get_or, leb, ltb, eqb}
+use Rattle.std.specs.Prelude.{ℕ, zero, suc, ◌-◌, ◌<◌, ◌≤◌, ◌≡◌, Bool, false, not, cond, ◌||◌, ◌&&◌, List, [], ◌∷◌, length, get_or, leb, ltb}
 use Rattle.refusals.specs.Refusals.{first_where}
 use Rattle.runs.specs.Run.{goes_on, last_member, Stop, want_stops}
 use Rattle.runs.specs.Alone.{lone_stops}

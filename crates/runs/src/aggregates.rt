@@ -1,5 +1,5 @@
 // Aggregates: which entries of the table belong together, and which aggregate number is bad.
-ghost use Rattle.std.specs.Prelude.{◌≡◌, not, ◌&&◌, ℕ, ◌≤◌, ◌<◌, length, get_or, eqb};
+ghost use Rattle.std.specs.Prelude.{◌≡◌, not, ◌&&◌, ◌≤◌, ◌<◌, length, get_or, eqb};
 ghost use Rattle.refusals.specs.Refusals.{first_where};
 ghost use Rattle.runs.specs.Run.{goes_on, first_member, last_member};
 ghost use Rattle.runs.specs.Lists.{any_below};
@@ -12,10 +12,7 @@ use crate::MOST_AGGREGATES;
 fn same_aggregate(before: u64, number: u64) -> bool
     ensures { result ≡ (not (eqb number 0) && eqb before number) }
 {
-    if number == 0 {
-        return false;
-    }
-    before == number
+    number != 0 && before == number
 }
 
 // Whether the entry at an index goes on with the one before it.
@@ -37,28 +34,24 @@ pub(crate) fn goes_on(aggregates: &[u64], i: usize) -> bool
 pub fn first_member(aggregates: &[u64], i: usize) -> usize
     ensures { result ≡ first_member aggregates.now i }
 {
-    let mut j: usize = i;
-    while 0 < j {
-        if !goes_on(aggregates, j) {
-            return j;
-        }
-        j -= 1;
+    let mut first = i;
+    // Stays: a `for` from the right needs a return in its midst and an answer behind it that is never given, so that it is no plainer.
+    while goes_on(aggregates, first) {
+        first -= 1;
     }
-    j
+    first
 }
 
 // The index of the last entry of an entry's aggregate.
 pub fn last_member(aggregates: &[u64], i: usize) -> usize
     ensures { result ≡ last_member aggregates.now i }
 {
-    let mut j: usize = i;
-    while j < aggregates.len() {
-        if !goes_on(aggregates, j + 1) {
-            return j;
+    for last in i..aggregates.len() {
+        if !goes_on(aggregates, last + 1) {
+            return last;
         }
-        j += 1;
     }
-    j
+    i
 }
 
 // Whether an entry before an index has a number.
@@ -66,14 +59,7 @@ fn met_before(aggregates: &[u64], number: u64, i: usize) -> bool
     requires { i ≤ length aggregates.now }
     ensures { result ≡ any_below (λ j. eqb (get_or aggregates.now j 0) number) i }
 {
-    let mut j: usize = 0;
-    while j < i {
-        if aggregates[j] == number {
-            return true;
-        }
-        j += 1;
-    }
-    false
+    aggregates[..i].contains(&number)
 }
 
 // An entry's aggregate number. The entries before it are looked at only where a new number begins, between the bounds of those met.
@@ -101,43 +87,21 @@ fn bad_number(aggregates: &[u64], i: usize, low: u64, high: u64) -> bool
     met_before(aggregates, number, i)
 }
 
-// The bounds with one number more; 0 does not count.
-fn lower(low: u64, number: u64) -> u64
-    ensures { (result ≤ low) × (0 < number → result ≤ number) }
-{
-    if number == 0 {
-        return low;
-    }
-    if number < low {
-        return number;
-    }
-    low
-}
-
-fn higher(high: u64, number: u64) -> u64
-    ensures { (high ≤ result) × (number ≤ result) }
-{
-    if high < number {
-        return number;
-    }
-    high
-}
-
 // The first file whose aggregate number is bad, counted from 1; 0 where there is none.
+// Stays: a place and no Option, since first_where in the promise counts from 1 and says 0 for none.
 pub(crate) fn first_bad_number(aggregates: &[u64]) -> u64
     ensures { result ≡ first_where (bad_number aggregates.now) (length aggregates.now) }
 {
-    let mut low: u64 = MOST_AGGREGATES;
-    let mut high: u64 = 0;
-    let mut i: usize = 0;
-    while i < aggregates.len() {
+    let mut low = MOST_AGGREGATES;
+    let mut high = 0;
+    for (i, number) in aggregates.iter().enumerate() {
         if bad_number(aggregates, i, low, high) {
-            return (i + 1) as u64;
+            return i as u64 + 1;
         }
-        let number = aggregates[i];
-        low = lower(low, number);
-        high = higher(high, number);
-        i += 1;
+        if *number != 0 {
+            low = low.min(*number);
+            high = high.max(*number);
+        }
     }
     0
 }

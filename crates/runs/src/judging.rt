@@ -1,6 +1,6 @@
 // Judging a run: refusals 1 to 7, in the order of the table.
 ghost use Rattle.std.specs.Prelude.{◌≡◌, not, ◌||◌, ℕ, ◌+◌, ◌-◌, ◌≤◌, ◌<◌, List, length, get_or, eqb, ltb, leb};
-ghost use Rattle.refusals.specs.Refusals.{first_where, first_of};
+ghost use Rattle.refusals.specs.Refusals.{checked, first_where, first_of};
 ghost use Rattle.runs.specs.Run.{last_place, most_files, most_reads, joined, want_stops};
 ghost use Rattle.runs.specs.Judging.{right_end};
 ghost use Rattle.runs.specs.Alone.{alone_at, lone_stops};
@@ -11,7 +11,7 @@ ghost use Rattle.runs.specs.Alone.{place_checks};
 
 use crate::aggregates::{first_bad_number, last_member};
 use crate::{HIGHEST_TURN, LAST_PLACE, MOST_FILES, MOST_READS, MOST_WANTS};
-use refusals::{Refusal, Verdict, refuse_at, refuse_if, refused};
+use refusals::{Refusal, Verdict};
 
 // How much tape lies right of a place on it.
 fn tape_right_of(place: u64) -> u64
@@ -38,20 +38,17 @@ fn bad_place(start: u64, size: u64, before: u64) -> bool
 }
 
 // The first file whose place is bad, counted from 1; 0 where there is none.
+// Stays: a place and no Option, since first_where in the promise counts from 1 and says 0 for none.
 fn first_bad_place(starts: &[u64], lengths: &[u64]) -> u64
     requires { length starts.now ≡ length lengths.now }
     ensures { result ≡ first_where (bad_place starts.now lengths.now) (length starts.now) }
 {
-    let mut before: u64 = 0;
-    let mut i: usize = 0;
-    while i < starts.len() {
-        let start = starts[i];
-        let length = lengths[i];
-        if bad_place(start, length, before) {
-            return (i + 1) as u64;
+    let mut before = 0;
+    for (i, (start, length)) in starts.iter().zip(lengths).enumerate() {
+        if bad_place(*start, *length, before) {
+            return i as u64 + 1;
         }
-        before = start + length;
-        i += 1;
+        before = *start + *length;
     }
     0
 }
@@ -73,20 +70,17 @@ fn bad_want(files: u64, number: u64, count: u64, before: u64) -> bool
 }
 
 // The first bad want, counted from 1; 0 where there is none.
+// Stays: a place and no Option, since first_where in the promise counts from 1 and says 0 for none.
 fn first_bad_want(files: u64, numbers: &[u64], counts: &[u64]) -> u64
     requires { length numbers.now ≡ length counts.now }
     ensures { result ≡ first_where (bad_want files numbers.now counts.now) (length numbers.now) }
 {
-    let mut before: u64 = 0;
-    let mut i: usize = 0;
-    while i < numbers.len() {
-        let number = numbers[i];
-        let count = counts[i];
-        if bad_want(files, number, count, before) {
-            return (i + 1) as u64;
+    let mut before = 0;
+    for (i, (number, count)) in numbers.iter().zip(counts).enumerate() {
+        if bad_want(files, *number, *count, before) {
+            return i as u64 + 1;
         }
-        before = number;
-        i += 1;
+        before = *number;
     }
     0
 }
@@ -105,15 +99,12 @@ fn passes_most(sum: u64, count: u64) -> bool
 pub fn count_reads(counts: &[u64]) -> u64
     ensures { result ≡ counted_reads counts.now }
 {
-    let mut sum: u64 = 0;
-    let mut i: usize = 0;
-    while i < counts.len() {
-        let count = counts[i];
-        if passes_most(sum, count) {
+    let mut sum = 0;
+    for count in counts {
+        if passes_most(sum, *count) {
             return PAST_MOST_READS;
         }
-        sum += count;
-        i += 1;
+        sum += *count;
     }
     sum
 }
@@ -124,11 +115,10 @@ fn right_end(starts: &[u64], lengths: &[u64], numbers: &[u64]) -> u64
     requires by_index { (i : ℕ) → i < length numbers.now → InTable starts.now (get_or numbers.now i 0) }
     ensures { (cs : List ℕ) → length cs ≡ length numbers.now → result ≡ right_end (lone_stops starts.now lengths.now numbers.now cs) }
 {
-    if numbers.len() == 0 {
+    let Some(last) = numbers.last() else {
         return 0;
-    }
-    let last = numbers.len() - 1;
-    let at = (numbers[last] - 1) as usize;
+    };
+    let at = (*last - 1) as usize;
     starts[at] + lengths[at]
 }
 
@@ -139,11 +129,10 @@ fn right_end_joined(starts: &[u64], lengths: &[u64], aggregates: &[u64], numbers
     requires by_index { (i : ℕ) → i < length numbers.now → InTable starts.now (get_or numbers.now i 0) }
     ensures { (cs : List ℕ) → length cs ≡ length numbers.now → result ≡ right_end (joined (want_stops starts.now lengths.now aggregates.now numbers.now cs)) }
 {
-    if numbers.len() == 0 {
+    let Some(last) = numbers.last() else {
         return 0;
-    }
-    let last = numbers.len() - 1;
-    let at = last_member(aggregates, (numbers[last] - 1) as usize);
+    };
+    let at = last_member(aggregates, (*last - 1) as usize);
     starts[at] + lengths[at]
 }
 
@@ -151,108 +140,70 @@ fn right_end_joined(starts: &[u64], lengths: &[u64], aggregates: &[u64], numbers
 fn uneven(first: usize, second: usize, most: usize) -> bool
     ensures { result ≡ (ltb most first || not (eqb first second)) }
 {
-    if most < first {
-        return true;
-    }
-    first != second
+    most < first || first != second
 }
 
 // The same of the table's three rows.
 fn table_uneven(starts: usize, lengths: usize, aggregates: usize) -> bool
     ensures { result ≡ (ltb most_files starts || not (eqb starts lengths) || not (eqb starts aggregates)) }
 {
-    if uneven(starts, lengths, MOST_FILES) {
-        return true;
-    }
-    starts != aggregates
+    uneven(starts, lengths, MOST_FILES) || starts != aggregates
 }
 
 // Of two places found, the earlier; 0 is none.
+// Stays: 0 and no Option here and where bad entries are looked for, since first_where in the promises counts so.
 fn earlier(first: u64, second: u64) -> u64
     ensures { result ≡ earlier_of first second }
 {
-    if first == 0 {
-        return second;
+    match (first, second) {
+        (0, place) | (place, 0) => place,
+        _ => first.min(second),
     }
-    if second == 0 {
-        return first;
-    }
-    if second < first {
-        return second;
-    }
-    first
 }
 
 // 1 and 2, for files that lie in no aggregate.
-fn judge_places(starts: &[u64], lengths: &[u64]) -> Verdict
-    ensures { result ≡ first_of (place_checks starts.now lengths.now) }
+fn judge_places(starts: &[u64], lengths: &[u64]) -> Result<(), Verdict>
+    ensures { result ≡ checked (first_of (place_checks starts.now lengths.now)) }
 {
-    let rows = refuse_if(
-        uneven(starts.len(), lengths.len(), MOST_FILES),
-        Refusal::FileRows,
-    );
-    if refused(rows) {
-        return rows;
-    }
-    refuse_at(first_bad_place(starts, lengths), Refusal::BadFile)
+    Refusal::FileRows.when(uneven(starts.len(), lengths.len(), MOST_FILES))?;
+    Refusal::BadFile.at(first_bad_place(starts, lengths))
 }
 
 // 1 and 2.
-fn judge_table(starts: &[u64], lengths: &[u64], aggregates: &[u64]) -> Verdict
-    ensures { result ≡ first_of (table_checks starts.now lengths.now aggregates.now) }
+fn judge_table(starts: &[u64], lengths: &[u64], aggregates: &[u64]) -> Result<(), Verdict>
+    ensures { result ≡ checked (first_of (table_checks starts.now lengths.now aggregates.now)) }
 {
-    let rows = refuse_if(
-        table_uneven(starts.len(), lengths.len(), aggregates.len()),
-        Refusal::FileRows,
-    );
-    if refused(rows) {
-        return rows;
-    }
+    Refusal::FileRows.when(table_uneven(starts.len(), lengths.len(), aggregates.len()))?;
     let place = first_bad_place(starts, lengths);
     let number = first_bad_number(aggregates);
-    refuse_at(earlier(place, number), Refusal::BadFile)
+    Refusal::BadFile.at(earlier(place, number))
 }
 
 // 3, 4 and 5.
-fn judge_wants(files: u64, numbers: &[u64], counts: &[u64]) -> Verdict
-    ensures { result ≡ first_of (wants_checks files numbers.now counts.now) }
+fn judge_wants(files: u64, numbers: &[u64], counts: &[u64]) -> Result<(), Verdict>
+    ensures { result ≡ checked (first_of (wants_checks files numbers.now counts.now)) }
 {
-    let rows = refuse_if(
-        uneven(numbers.len(), counts.len(), MOST_WANTS),
-        Refusal::WantRows,
-    );
-    if refused(rows) {
-        return rows;
-    }
-    let want = refuse_at(first_bad_want(files, numbers, counts), Refusal::BadWant);
-    if refused(want) {
-        return want;
-    }
-    refuse_if(MOST_READS < count_reads(counts), Refusal::TooManyReads)
+    Refusal::WantRows.when(uneven(numbers.len(), counts.len(), MOST_WANTS))?;
+    Refusal::BadWant.at(first_bad_want(files, numbers, counts))?;
+    Refusal::TooManyReads.when(MOST_READS < count_reads(counts))
 }
 
 // Whether the head stands off the tape, or left of the rightmost wanted end.
 fn head_misplaced(head: u64, rightmost: u64) -> bool
     ensures { result ≡ (ltb last_place head || ltb head rightmost) }
 {
-    if LAST_PLACE < head {
-        return true;
-    }
-    head < rightmost
+    LAST_PLACE < head || head < rightmost
 }
 
 // 6 and 7.
-fn judge_head(turn: u64, head: u64, rightmost: u64) -> Verdict
-    ensures { result ≡ first_of (head_checks turn head rightmost) }
+fn judge_head(turn: u64, head: u64, rightmost: u64) -> Result<(), Verdict>
+    ensures { result ≡ checked (first_of (head_checks turn head rightmost)) }
 {
-    let price = refuse_if(HIGHEST_TURN < turn, Refusal::TurnPrice);
-    if refused(price) {
-        return price;
-    }
-    refuse_if(head_misplaced(head, rightmost), Refusal::HeadPlace)
+    Refusal::TurnPrice.when(HIGHEST_TURN < turn)?;
+    Refusal::HeadPlace.when(head_misplaced(head, rightmost))
 }
 
-// The first refusal of 1 to 7 that applies to a run, or acceptance.
+// The first refusal of 1 to 7 that applies to a run.
 pub fn judge(
     starts: &[u64],
     lengths: &[u64],
@@ -261,17 +212,11 @@ pub fn judge(
     counts: &[u64],
     head: u64,
     turn: u64,
-) -> Verdict
-    ensures { result ≡ judge_of (run_at starts lengths aggregates numbers counts head turn) }
+) -> Result<(), Verdict>
+    ensures { result ≡ checked (judge_of (run_at starts lengths aggregates numbers counts head turn)) }
 {
-    let table = judge_table(starts, lengths, aggregates);
-    if refused(table) {
-        return table;
-    }
-    let wants = judge_wants(starts.len() as u64, numbers, counts);
-    if refused(wants) {
-        return wants;
-    }
+    judge_table(starts, lengths, aggregates)?;
+    judge_wants(starts.len() as u64, numbers, counts)?;
     judge_head(
         turn,
         head,
@@ -280,6 +225,7 @@ pub fn judge(
 }
 
 // The same for files that lie in no aggregate.
+// Stays: beside judge, since one function over an optional row of aggregates would be no plainer.
 pub fn judge_alone(
     starts: &[u64],
     lengths: &[u64],
@@ -287,16 +233,10 @@ pub fn judge_alone(
     counts: &[u64],
     head: u64,
     turn: u64,
-) -> Verdict
-    ensures { result ≡ judge_of (alone_at starts lengths numbers counts head turn) }
+) -> Result<(), Verdict>
+    ensures { result ≡ checked (judge_of (alone_at starts lengths numbers counts head turn)) }
 {
-    let table = judge_places(starts, lengths);
-    if refused(table) {
-        return table;
-    }
-    let wants = judge_wants(starts.len() as u64, numbers, counts);
-    if refused(wants) {
-        return wants;
-    }
+    judge_places(starts, lengths)?;
+    judge_wants(starts.len() as u64, numbers, counts)?;
     judge_head(turn, head, right_end(starts, lengths, numbers))
 }

@@ -1,36 +1,20 @@
 // Judging a detour list: refusal 10.
-ghost use Rattle.std.specs.Prelude.{◌≡◌, ◌&&◌, List, ℕ, ◌-◌, ◌<◌, length, leb};
-ghost use Rattle.refusals.specs.Refusals.{first_where};
+ghost use Rattle.std.specs.Prelude.{◌≡◌, List, ℕ, ◌-◌, ◌<◌, length};
+ghost use Rattle.refusals.specs.Refusals.{checked, first_where};
 ghost use Rattle.runs.specs.Run.{goes_on, joined, want_stops};
 ghost use Rattle.runs.specs.Lists.{bad_after, list_verdict};
 ghost use Rattle.runs.specs.Private.{last_file, some_between, row_named, row_alone, row_clash, row_bad};
 
 use crate::aggregates::{goes_on, last_member};
-use refusals::{Refusal, Verdict, refuse_at, refuse_if, refused};
+use refusals::{Refusal, Verdict};
 
-// Whether a number lies between two.
-fn lies_between(number: u64, low: u64, high: u64) -> bool
-    ensures { result ≡ (leb low number && leb number high) }
-{
-    if low <= number {
-        return number <= high;
-    }
-    false
-}
-
-// Whether a number of a row does.
+// Whether a number of a row lies between two.
 fn any_between(numbers: &[u64], low: u64, high: u64) -> bool
     ensures { result ≡ some_between numbers.now low high }
 {
-    let mut i: usize = 0;
-    while i < numbers.len() {
-        let number = numbers[i];
-        if lies_between(number, low, high) {
-            return true;
-        }
-        i += 1;
-    }
-    false
+    numbers
+        .iter()
+        .any(|number| low <= *number && *number <= high)
 }
 
 // Whether a file goes on with the one before it.
@@ -98,46 +82,37 @@ fn clashes(froms: &[u64], tos: &[u64], i: usize) -> bool
     requires i_in_bounds { i < length froms.now }
     ensures { result ≡ row_clash froms.now tos.now i }
 {
-    let from = froms[i];
-    let to = tos[i];
-    let mut j: usize = 0;
-    while j < i {
-        if bad_after(froms[j], tos[j], from, to) {
+    for (earlier_from, earlier_to) in froms[..i].iter().zip(&tos[..i]) {
+        if bad_after(*earlier_from, *earlier_to, froms[i], tos[i]) {
             return true;
         }
-        j += 1;
     }
     false
 }
 
 // The first entry that breaks a rule by itself or against an earlier one, counted from 1; 0 where none does.
+// Stays: a place and no Option, since first_where in the promise counts from 1 and says 0 for none.
 fn first_bad_entry(aggregates: &[u64], numbers: &[u64], froms: &[u64], tos: &[u64]) -> u64
     requires { length froms.now ≡ length tos.now }
     ensures { result ≡ first_where (row_bad aggregates.now numbers.now froms.now tos.now) (length froms.now) }
 {
-    let mut i: usize = 0;
-    while i < froms.len() {
-        if bad_alone(aggregates, numbers, froms[i], tos[i]) {
-            return (i + 1) as u64;
+    for (i, (from, to)) in froms.iter().zip(tos).enumerate() {
+        if bad_alone(aggregates, numbers, *from, *to) || clashes(froms, tos, i) {
+            return i as u64 + 1;
         }
-        if clashes(froms, tos, i) {
-            return (i + 1) as u64;
-        }
-        i += 1;
     }
     0
 }
 
 // 10, whatever the places of the files and the counts: place 0 where starts and ends differ in number.
-pub fn judge_list(aggregates: &[u64], numbers: &[u64], froms: &[u64], tos: &[u64]) -> Verdict
-    ensures { (s l cs : List ℕ) → length cs ≡ length numbers.now → result ≡ list_verdict (joined (want_stops s l aggregates.now numbers.now cs)) froms.now tos.now }
+pub fn judge_list(
+    aggregates: &[u64],
+    numbers: &[u64],
+    froms: &[u64],
+    tos: &[u64],
+) -> Result<(), Verdict>
+    ensures { (s l cs : List ℕ) → length cs ≡ length numbers.now → result ≡ checked (list_verdict (joined (want_stops s l aggregates.now numbers.now cs)) froms.now tos.now) }
 {
-    let halves = refuse_if(froms.len() != tos.len(), Refusal::BadEntry);
-    if refused(halves) {
-        return halves;
-    }
-    refuse_at(
-        first_bad_entry(aggregates, numbers, froms, tos),
-        Refusal::BadEntry,
-    )
+    Refusal::BadEntry.when(froms.len() != tos.len())?;
+    Refusal::BadEntry.at(first_bad_entry(aggregates, numbers, froms, tos))
 }

@@ -1,25 +1,26 @@
 -- What the figure sheet writer answers, step by step: a figure's line; the run, the name, the list as the figures judge it, the row.
 use Prim.Native.Nat.{ℕ, suc, ◌+◌, ◌-◌, ◌^◌, ◌≤◌, ◌<◌}
 use mathlib.Core.Path.{◌≡◌, refl, ap, sym, ◌∙◌, subst}
-use mathlib.Core.Bool.{Bool, true, false, not, true≢false}
+use mathlib.Core.Bool.{true, false, not, true≢false}
 use mathlib.Core.Logic.{⊎_elim}
 use mathlib.Core.List.{List, [], ◌∷◌, ◌++◌, append_assoc}
 use native.Mathlib.Omega.{arith}
 use native.Mathlib.Numerals.{add-one}
 use lib.ListN.{length, get_or, take, drop, drop_of_length-le}
 use lib.Seq.{take_at, drop-cons}
-use lib.Dec.{T}
 use lib.IntN.{ℤ, pos, negsuc, nat_abs, ◌-ℤ◌}
-use lib.Signed.{lt_z, non_neg}
+use lib.Signed.{lt_z}
 use mir.Syntax.{w64}
-use mir.Val.{Fits, SFits, to_z, of_z}
+use mir.Val.{SFits, to_z, of_z}
 use mir.ValLaws.{to_z-of_z}
 use borrow.Author.Tests.{le-ltb, ltb-true}
 use Rattle.refusals.specs.declared.Refusal.TheVariants.{BadName}
 use Rattle.refusals.specs.declared.Verdict.{Verdict}
 use Rattle.walk.specs.declared.Answer.{Answer}
-use Rattle.refusals.specs.Refusals.{is_refusal, refuse_if, first_of, accepted}
-use Rattle.refusals.proofs.Verdicts.{refuses, first_refuses}
+use Rattle.std.specs.Prelude.{Ok, Err}
+use Rattle.refusals.specs.Refusals.{is_refusal, checked, refuse_if, first_of, accepted}
+use Rattle.refusals.proofs.Verdicts.{refuses}
+use Rattle.refusals.proofs.Checked.{passed, stopped, first_stops}
 use Rattle.runs.specs.Run.{Run, stops_of, most_wants}
 use Rattle.runs.specs.Judging.{judge_of}
 use Rattle.runs.specs.Lists.{list_of, list_verdict}
@@ -60,20 +61,6 @@ module _ (z : ℤ) (fits : SFits w64 z) (e : lt_z (to_z w64 (of_z w64 z)) (pos 0
 
   less_word : to_z w64 (of_z w64 (negsuc 0 -ℤ to_z w64 (of_z w64 z))) ≡ pos (nat_abs z - 1)
   less_word = to_z-of_z w64 _ less_fits ∙ below z fits e
-
-  pub less_casts : T (non_neg (to_z w64 (of_z w64 (negsuc 0 -ℤ to_z w64 (of_z w64 z))))) × Fits w64 (nat_abs (to_z w64 (of_z w64 (negsuc 0 -ℤ to_z w64 (of_z w64 z)))))
-  less_casts = rw less_word (tt, record { fits = omega (arith, (below_size z fits e).1) })
-
-  pub less_adds : Fits w64 (nat_abs (to_z w64 (of_z w64 (negsuc 0 -ℤ to_z w64 (of_z w64 z)))) + 1)
-  less_adds = rw less_word (record { fits = omega (arith, (below_size z fits e).1) })
-
-  pub less_size : nat_abs (to_z w64 (of_z w64 (negsuc 0 -ℤ to_z w64 (of_z w64 z)))) + 1 ≡ nat_abs z
-  less_size = rw less_word (omega (arith, (below_size z fits e).0))
-
--- Any other.
-pub whole_casts : (z : ℤ) → SFits w64 z → lt_z (to_z w64 (of_z w64 z)) (pos 0) ≡ false → T (non_neg (to_z w64 (of_z w64 z))) × Fits w64 (nat_abs (to_z w64 (of_z w64 z)))
-whole_casts (pos n) fits e = rw (to_z-of_z w64 (pos n) fits) (tt, record { fits = omega (arith, fits.sfits) })
-whole_casts (negsuc n) fits e = absurd (true≢false (rw (to_z-of_z w64 (negsuc n) fits) at e))
 
 pub whole_size : (z : ℤ) → SFits w64 z → nat_abs (to_z w64 (of_z w64 z)) ≡ nat_abs z
 whole_size z fits = ap nat_abs (to_z-of_z w64 z fits)
@@ -123,84 +110,93 @@ module _ (froms tos : List ℕ) (figures : List ℤ) (even : length froms ≡ le
   unfolding figure_lines
   figures_over l = rw (drop_of_length-le froms l)
 
--- v is the run's verdict, w that of the run and the name, f whether w refuses.
-module _ (name : List ℕ) (run : Run) (froms tos row : List ℕ) (v w : Verdict) (v-is : v ≡ judge_any_of run) (w-is : w ≡ first_of (v ∷ refuse_if (not (is_name name)) BadName ∷ [])) (f : Bool)
-    (f-is : f ≡ is_refusal w.refusal) where
-  pub figures_refused : f ≡ true → figure_any_sheet_verdict name run froms tos row ≡ w
-  unfolding figure_any_sheet_verdict
-  figures_refused e = judged_refused name (judge_any_of run) false v w v-is w-is f f-is (list_verdict_any run.head (stops_of run) froms tos ∷ row_verdict (figure_any_text name run froms tos) row ∷ []) e
+-- What the judging of the run and the name's say together.
+abbrev figures_judged : List ℕ → Run → Verdict
+figures_judged name run = first_of (judge_any_of run ∷ refuse_if (not (is_name name)) BadName ∷ [])
 
-  module _ (good : f ≡ false) where
+module _ (name : List ℕ) (run : Run) (froms tos row : List ℕ) where
+  pub figures_refused : (e : Verdict) → Err e ≡ checked (figures_judged name run) → Err e ≡ checked (figure_any_sheet_verdict name run froms tos row)
+  unfolding figure_any_sheet_verdict
+  figures_refused = judged_refused name (judge_any_of run) false (list_verdict_any run.head (stops_of run) froms tos ∷ row_verdict (figure_any_text name run froms tos) row ∷ [])
+
+  module _ (u : Unit) (good : Ok u ≡ checked (figures_judged name run)) where
     good_figures : GoodAnyRun run
-    good_figures = accepted_any run (run_passes name (judge_any_of run) false v w v-is w-is f f-is good)
+    good_figures = accepted_any run (run_passes name (judge_any_of run) false u good)
 
     figures_pass : figure_any_sheet_verdict name run froms tos row ≡ first_of (list_verdict_any run.head (stops_of run) froms tos ∷ row_verdict (figure_any_text name run froms tos) row ∷ [])
     unfolding figure_any_sheet_verdict
-    figures_pass = judged_passes name (judge_any_of run) false v w v-is w-is f f-is good (list_verdict_any run.head (stops_of run) froms tos ∷ row_verdict (figure_any_text name run froms tos) row ∷ [])
+    figures_pass = judged_passes name (judge_any_of run) false u good (list_verdict_any run.head (stops_of run) froms tos ∷ row_verdict (figure_any_text name run froms tos) row ∷ [])
 
-    -- a is what the figures' routine answered with a row for figures that is long enough, g whether that refuses.
-    module _ (space : List ℤ) (room : most_wants ≤ length space) (a : Answer) (a-is : a ≡ figures_any_answer run froms tos space) (g : Bool) (g-is : g ≡ is_refusal a.refusal) where
+    -- a is what the figures' routine answered with a row for figures that is long enough.
+    module _ (space : List ℤ) (room : most_wants ≤ length space) (a : Answer) (a-is : a ≡ figures_any_answer run froms tos space) where
       list : Verdict
       list = list_verdict_any run.head (stops_of run) froms tos
 
-      list_length : is_refusal list.refusal ≡ false → (length (list_of froms tos) ≡ length froms) × (length froms ≤ most_wants)
+      abbrev told : Verdict
+      told = record { refusal = a.refusal; place = a.place }
+
+      list_length : refuses list ≡ false → (length (list_of froms tos) ≡ length froms) × (length froms ≤ most_wants)
       unfolding list
       list_length e =
           let entries = any_good run.head (stops_of run) froms tos e in
           (length_list froms tos entries.even, omega (arith, list_fits_lem (lifted run) good_figures.run froms tos entries, good_figures.run.wants.few))
 
-      verdict_good : is_refusal list.refusal ≡ false → figures_any_verdict run froms tos space ≡ accepted
+      verdict_good : refuses list ≡ false → figures_any_verdict run froms tos space ≡ accepted
       unfolding figures_any_verdict list
       verdict_good e =
           let size = list_length e in
-          rw (run_passes name (judge_any_of run) false v w v-is w-is f f-is good, e, le-ltb (length space) (length (list_of froms tos)) (omega (arith, size.0, size.1))) refl
+          rw (run_passes name (judge_any_of run) false u good, e, le-ltb (length space) (length (list_of froms tos)) (omega (arith, size.0, size.1))) refl
 
-      verdict_refused : is_refusal list.refusal ≡ true → figures_any_verdict run froms tos space ≡ list
+      verdict_refused : refuses list ≡ true → figures_any_verdict run froms tos space ≡ list
       unfolding figures_any_verdict list
-      verdict_refused e = rw (run_passes name (judge_any_of run) false v w v-is w-is f f-is good, e) refl
+      verdict_refused e = rw (run_passes name (judge_any_of run) false u good, e) refl
 
-      figured_refused : is_refusal list.refusal ≡ true → a ≡ refusal_answer list
+      figured_refused : refuses list ≡ true → a ≡ refusal_answer list
       unfolding figures_any_answer
       figured_refused e = a-is ∙ rw (verdict_refused e, e)
 
-      figured_good : is_refusal list.refusal ≡ false → a ≡ priced_any_answer run (list_of froms tos)
+      figured_good : refuses list ≡ false → a ≡ priced_any_answer run (list_of froms tos)
       unfolding figures_any_answer
       figured_good e = a-is ∙ rw (verdict_good e)
 
-      list_says : is_refusal list.refusal ≡ g
+      list_says : refuses list ≡ refuses told
       unfolding priced_any_answer
       list_says =
           ⊎_elim
-          (λ e. ap (λ x. is_refusal x.refusal) (sym (figured_refused e)) ∙ sym g-is)
-          (λ e. e ∙ sym (g-is ∙ ap (λ x. is_refusal x.refusal) (figured_good e)))
-          (true_or_false (is_refusal list.refusal))
+          (λ e. ap (λ x. is_refusal x.refusal) (sym (figured_refused e)))
+          (λ e. e ∙ sym (ap (λ x. is_refusal x.refusal) (figured_good e)))
+          (true_or_false (refuses list))
 
-      pub figures_list_refused : g ≡ true → figure_any_sheet_verdict name run froms tos row ≡ record { refusal = a.refusal; place = a.place }
+      pub figures_list_refused : (e : Verdict) → Err e ≡ checked told → Err e ≡ checked (figure_any_sheet_verdict name run froms tos row)
       unfolding list
-      figures_list_refused e =
-          figures_pass ∙ rw (list_says ∙ e) (ap (λ x. record { refusal = x.refusal; place = x.place }) (sym (figured_refused (list_says ∙ e))))
+      figures_list_refused e said =
+          let so = list_says ∙ (stopped told e said).so in
+          said ∙ ap checked (sym (figures_pass ∙ rw so (ap (λ x. record { refusal = x.refusal; place = x.place }) (sym (figured_refused so)))))
 
-      module _ (fine : g ≡ false) where
+      module _ (w : Unit) (accepts : Ok w ≡ checked told) where
+        fine : refuses list ≡ false
+        fine = list_says ∙ passed told w accepts
+
         good_list_here : GoodList (stops_of run) froms tos
         unfolding list
-        good_list_here = any_good run.head (stops_of run) froms tos (list_says ∙ fine)
+        good_list_here = any_good run.head (stops_of run) froms tos fine
 
         pub few_figures : length froms ≤ most_wants
-        few_figures = (list_length (list_says ∙ fine)).1
+        few_figures = (list_length fine).1
 
         pub figures_last : figure_any_sheet_verdict name run froms tos row ≡ row_verdict (figure_any_text name run froms tos) row
         unfolding list
-        figures_last = figures_pass ∙ rw (list_says ∙ fine) (last_verdict (figure_any_text name run froms tos) row)
+        figures_last = figures_pass ∙ rw fine (last_verdict (figure_any_text name run froms tos) row)
 
         -- The figures that the routine left in the row.
         module _ (space' : List ℤ) (space-is : space' ≡ figures_any_row run froms tos space) where
           figures_size : length (figures_any_of run (list_of froms tos)) ≡ length froms
-          figures_size = figures_length run (list_of froms tos) ∙ (list_length (list_says ∙ fine)).0
+          figures_size = figures_length run (list_of froms tos) ∙ (list_length fine).0
 
           figures_taken : take (length froms) space' ≡ figures_any_of run (list_of froms tos)
           unfolding figures_any_row
           figures_taken =
-              ap (take (length froms)) (space-is ∙ rw (verdict_good (list_says ∙ fine)) refl)
+              ap (take (length froms)) (space-is ∙ rw (verdict_good fine) refl)
               ∙ take_at (figures_any_of run (list_of froms tos)) (drop (length (list_of froms tos)) space) (length froms) figures_size
 
           pub figures_count : length froms ≡ length (take (length froms) space')
@@ -210,7 +206,7 @@ module _ (name : List ℕ) (run : Run) (froms tos row : List ℕ) (v w : Verdict
           figures_fit page wide =
               record {
                 room = wide;
-                short = name_fits name (judge_any_of run) false v w v-is w-is f f-is good;
+                short = name_fits name (judge_any_of run) false u good;
                 few = few_figures;
                 even = good_list_here.even;
                 figured = figures_count;
@@ -219,7 +215,7 @@ module _ (name : List ℕ) (run : Run) (froms tos row : List ℕ) (v w : Verdict
           pub figures_wrote : (page page' : List ℕ) (n : ℕ) → Wrote page 0 (figure_page name a froms tos (take (length froms) space')) figure_most page' n
               → Wrote page 0 (figure_any_text name run froms tos) figure_most page' n
           unfolding figure_any_text
-          figures_wrote page page' n w = rw (← figured_good (list_says ∙ fine), ← figures_taken) w
+          figures_wrote page page' n w = rw (← figured_good fine, ← figures_taken) w
 
 -- Of a run that 01 accepts the sheet, the checks and what is written are 01's.
 module _ (name : List ℕ) (run : Run) (accepts : refuses (judge_of run) ≡ false) (froms tos : List ℕ) where
@@ -240,7 +236,7 @@ module _ (name : List ℕ) (run : Run) (accepts : refuses (judge_of run) ≡ fal
   written_same row r row' h = record { answer = h.answer ∙ rw (sheet_same row, text_same); left = h.left ∙ rw (sheet_same row, text_same) }
 
 -- One that the judging refuses is refused so.
-pub run_refused : (name : List ℕ) (run : Run) (froms tos row : List ℕ) → refuses (judge_of run) ≡ true → figure_sheet_verdict name run froms tos row ≡ judge_of run
+pub run_refused : (name : List ℕ) (run : Run) (froms tos row : List ℕ) (e : Verdict) → Err e ≡ checked (judge_of run) → Err e ≡ checked (figure_sheet_verdict name run froms tos row)
 unfolding figure_sheet_verdict
-run_refused name run froms tos row e =
-    sym (first_refuses (judge_of run) (refuse_if (not (is_name name)) BadName ∷ list_verdict (stops_of run) froms tos ∷ row_verdict (figure_text name run froms tos) row ∷ []) e)
+run_refused name run froms tos row =
+    first_stops (judge_of run) (refuse_if (not (is_name name)) BadName ∷ list_verdict (stops_of run) froms tos ∷ row_verdict (figure_text name run froms tos) row ∷ [])

@@ -3,14 +3,18 @@
 // For the program and the tools, which see only this contract. What the words mean stands in specs/; the function answers every input.
 #![tactic(auto)]
 
-ghost use Rattle.std.specs.Prelude.{◌≡◌, ◌+◌, ◌*◌, ◌≤◌, length, nat_abs};
+ghost use Rattle.std.specs.Prelude.{◌≡◌, not, [], ◌∷◌, ◌+◌, ◌*◌, ◌≤◌, length, nat_abs};
+ghost use Rattle.refusals.specs.declared.Refusal.TheVariants.{BadName};
+ghost use Rattle.refusals.specs.Refusals.{checked, refuse_if, first_of};
+ghost use Rattle.runs.specs.AnyHead.{judge_any_of};
 ghost use Rattle.runs.specs.Rows.{run_at};
+ghost use Rattle.text_bytes.specs.Text.{is_name};
 ghost use Rattle.text_pages.specs.Printing.{Wrote};
 ghost use Rattle.sheet_figures.specs.FigureSheet.{figure_line, figure_lines, figure_page, FigureWritten};
 ghost use Rattle.sheet_figures.specs.AnyHead.{FigureAnyWritten};
 ghost use Rattle.sheet_figures.specs.Private.{figure_most, FigureFits};
 
-use refusals::{Verdict, refused};
+use refusals::Verdict;
 use sheet_writer::{Written, answer_to, hand_out, judge_any, judge_name};
 use text_pages::{put, put_line, put_number_line, put_pair};
 use walk::Answer;
@@ -44,10 +48,8 @@ fn put_figures(page: &mut [u8], at: usize, froms: &[u64], tos: &[u64], figures: 
     ensures { Wrote page.old at (figure_lines froms.now tos.now figures.now) (length froms.now * 69) page.new result }
 {
     let mut next = at;
-    let mut i: usize = 0;
-    while i < froms.len() {
+    for i in 0..froms.len() {
         next = put_figure(page, next, froms[i], tos[i], figures[i]);
-        i += 1;
     }
     next
 }
@@ -69,6 +71,23 @@ fn put_figure_sheet(
     put_figures(page, buys_at, froms, tos, figures)
 }
 
+// 1 to 7 for a head anywhere, then 13.
+fn judge_sheet(
+    name: &[u8],
+    starts: &[u64],
+    lengths: &[u64],
+    aggregates: &[u64],
+    numbers: &[u64],
+    counts: &[u64],
+    head: u64,
+    turn: u64,
+) -> Result<(), Verdict>
+    ensures { result ≡ checked (first_of (judge_any_of (run_at starts lengths aggregates numbers counts head turn) ∷ refuse_if (not (is_name name.now)) BadName ∷ [])) }
+{
+    let run = judge_any(starts, lengths, aggregates, numbers, counts, head, turn);
+    judge_name(run, false, name)
+}
+
 // The figure sheet of a run with the head anywhere.
 pub fn write_figures_any(
     name: &[u8],
@@ -85,22 +104,22 @@ pub fn write_figures_any(
 ) -> Written
     ensures { FigureAnyWritten name.now (run_at starts lengths aggregates numbers counts head turn) froms.now tos.now out.old result out.new }
 {
-    let run = judge_any(starts, lengths, aggregates, numbers, counts, head, turn);
-    let named = judge_name(run, false, name);
-    if refused(named) {
-        return answer_to(named, 0);
+    let judged = judge_sheet(
+        name, starts, lengths, aggregates, numbers, counts, head, turn,
+    );
+    if let Err(refusal) = judged {
+        return answer_to(refusal, 0);
     }
     let mut row = [0i64; 64];
     let answer = figures::figures_any(
         starts, lengths, aggregates, numbers, counts, head, turn, froms, tos, &mut row,
     );
-    let refusal = answer.refusal;
     let list = Verdict {
-        refusal,
+        refusal: answer.refusal,
         place: answer.place,
     };
-    if refused(list) {
-        return answer_to(list, 0);
+    if let Err(refusal) = list.told() {
+        return answer_to(refusal, 0);
     }
     let detours = froms.len();
     let mut page = [0u8; 4492];
@@ -124,9 +143,8 @@ pub fn write_figures(
 ) -> Written
     ensures { FigureWritten name.now (run_at starts lengths aggregates numbers counts head turn) froms.now tos.now out.old result out.new }
 {
-    let run = runs::judge(starts, lengths, aggregates, numbers, counts, head, turn);
-    if refused(run) {
-        return answer_to(run, 0);
+    if let Err(refusal) = runs::judge(starts, lengths, aggregates, numbers, counts, head, turn) {
+        return answer_to(refusal, 0);
     }
     write_figures_any(
         name, starts, lengths, aggregates, numbers, counts, head, turn, froms, tos, out,

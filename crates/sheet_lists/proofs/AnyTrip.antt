@@ -1,11 +1,10 @@
 -- The same with a head anywhere: every number on the plan sheet of an accepted run and of a list that is well formed for that head is a word, and reading
 -- the sheet gives the list.
-use Prim.Native.Nat.{ℕ, ◌*◌, ◌^◌, ◌≤◌, ◌<◌}
-use mathlib.Core.Path.{◌≡◌, refl, ap, sym, ◌∙◌}
+use Prim.Native.Nat.{ℕ, ◌^◌, ◌≤◌}
+use mathlib.Core.Path.{◌≡◌, refl, sym, ◌∙◌}
 use mathlib.Core.Bool.{true, false, not}
 use mathlib.Core.List.{List, [], ◌∷◌, map}
 use native.Mathlib.Omega.{arith}
-use native.Mathlib.Nat.{mul-le-mul_left}
 use lib.ListN.{length}
 use lib.Dec.{eqb}
 use borrow.Author.Tests.{le-ltb, eq-eqb}
@@ -17,17 +16,14 @@ use Rattle.runs.specs.Judging.{judge_of}
 use Rattle.runs.specs.Lists.{list_of, list_verdict}
 use Rattle.runs.specs.AnyHead.{judge_any_of, lifted, first_bad_entry_any, list_verdict_any}
 use Rattle.runs.proofs.AnyHead.{GoodAnyRun, accepted_any, judge_any_lem}
-use Rattle.runs.proofs.Joined.{reads_of}
 use Rattle.runs.proofs.Stops.{stops_reads, wants_length}
-use Rattle.walk.specs.declared.Head.{Head}
-use Rattle.walk.specs.declared.Leg.{Leg}
-use Rattle.walk.specs.Walk.{head_at, time_of, times_of, legs_for, sum_of}
+use Rattle.walk.specs.Walk.{head_at, times_of, legs_for}
 use Rattle.walk.specs.Price.{priced_answer}
 use Rattle.walk.specs.AnyHead.{run_legs, priced_any_answer}
 use Rattle.walk.specs.Private.{Walkable}
 use Rattle.walk.proofs.Walks.{any_walkable}
 use Rattle.walk.proofs.AnyHead.{any_even, any_good, any_formed}
-use Rattle.walk.proofs.Filling.{one_each, time_most, end_bound, time_bound}
+use Rattle.walk.proofs.Filling.{one_each, end_bound, time_bound}
 use Rattle.walk.proofs.Laws.{sum_within}
 use Rattle.text_bytes.specs.Text.{is_name}
 use Rattle.sheet_reader.specs.Sheet.{longest_sheet}

@@ -1,24 +1,24 @@
 -- Every number on the plan sheet of an accepted run and a well-formed list is below 2 to the 64.
 use Prim.Native.Nat.{ℕ, zero, suc, ◌+◌, ◌^◌, ◌≤◌, ◌<◌}
-use mathlib.Core.Path.{◌≡◌, ap, sym, ◌∙◌}
-use mathlib.Core.Bool.{Bool, true, false}
+use mathlib.Core.Path.{◌≡◌}
+use mathlib.Core.Bool.{false}
 use mathlib.Core.List.{List, [], ◌∷◌, map}
 use mathlib.Core.Logic.{⊎_elim}
 use native.Mathlib.Omega.{arith}
 use lib.ListN.{length, get_or}
 use Rattle.refusals.proofs.Verdicts.{refuses}
-use Rattle.runs.specs.Run.{Run, Stop, stops_of, want_stops_of, last_place, most_wants}
+use Rattle.runs.specs.Run.{Run, Stop, stops_of, want_stops_of, last_place}
 use Rattle.runs.specs.Judging.{judge_of}
 use Rattle.runs.specs.Lists.{list_of, list_verdict}
 use Rattle.runs.proofs.Search.{true_or_false}
 use Rattle.runs.proofs.Judged.{accepted_run}
 use Rattle.walk.specs.declared.Head.{Head}
 use Rattle.walk.specs.declared.Leg.{Leg}
-use Rattle.walk.specs.Walk.{head_at, after_leg, walked, reads, leg_from, leg_for, time_of, times_of, legs_for}
+use Rattle.walk.specs.Walk.{head_at, after_leg, walked, reads, leg_from, times_of, legs_for}
 use Rattle.walk.specs.Detours.{legs_of}
 use Rattle.walk.specs.Price.{priced_answer, priced_times, priced_legs}
 use Rattle.walk.proofs.Walks.{accepted_list, run_walkable}
-use Rattle.walk.proofs.Laws.{sum_below_lem, finish_below, time_below}
+use Rattle.walk.proofs.Laws.{time_below}
 
 -- The head ends where the last leg does, or where it started.
 pub end_near : (turn most : ℕ) (gs : List Leg) (h : Head) → h.place ≤ most → ((i : ℕ) → i < length gs → (get_or gs i (record { left = 0; right = 0 })).right ≤ most) → (walked turn h gs).place ≤ most

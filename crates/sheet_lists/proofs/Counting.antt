@@ -1,13 +1,14 @@
 -- Lines counted byte by byte, and a row that is left where a text is cut.
-use Prim.Native.Nat.{ℕ, suc, ◌+◌, ◌-◌, ◌≤◌, ◌<◌}
+use Prim.Native.Nat.{ℕ, suc, ◌+◌, ◌-◌, ◌≤◌, ◌<◌, min}
 use mathlib.Core.Path.{◌≡◌, refl, sym, ap, ◌∙◌}
 use mathlib.Core.Bool.{Bool, true, false}
-use mathlib.Core.List.{List, [], ◌∷◌, ◌++◌}
+use mathlib.Core.List.{List, [], ◌∷◌}
 use native.Mathlib.Omega.{arith}
+use native.Mathlib.Decide.{dec_lt}
 use native.Mathlib.Numerals.{add-one}
 use lib.ListN.{length, take, drop, get_or, length-drop, drop_of_length-le}
 use lib.Seq.{drop-cons, take-length}
-use lib.Dec.{ltb, eqb}
+use lib.Dec.{ltb}
 use borrow.Author.Tests.{eq-eqb, ne_eqb, lt-ltb, le-ltb, ltb-false}
 use Rattle.text_bytes.specs.Text.{line_feed}
 use Rattle.sheet_lists.specs.Form.{lines_in, lines_up_to}
@@ -52,13 +53,9 @@ pub part_rest : (text : List ℕ) (at : ℕ) → take (length text - at) (drop a
 part_rest text at = ap (λ n. take n (drop at text)) (sym (length-drop at text)) ∙ take-length (drop at text)
 
 -- The limit.
-pub up_to_most : (most : ℕ) (text : List ℕ) (n : ℕ) → n ≡ lines_in text → most < n → most ≡ lines_up_to most text
+pub up_to_least : (most : ℕ) (text : List ℕ) (n : ℕ) → n ≡ lines_in text → min n most ≡ lines_up_to most text
 unfolding lines_up_to
-up_to_most most text n e l = rw (← e, lt-ltb most n l)
-
-pub up_to_all : (most : ℕ) (text : List ℕ) (n : ℕ) → n ≡ lines_in text → n ≤ most → n ≡ lines_up_to most text
-unfolding lines_up_to
-up_to_all most text n e l = rw (← e, le-ltb most n l)
+up_to_least most text n e = elim (dec_lt most n) [ yes h ↦ rw (← e, lt-ltb most n h) (omega arith) | no h ↦ rw (← e, le-ltb most n (omega arith)) (omega arith) ]
 
 pub up_to_few : (most : ℕ) (text : List ℕ) → lines_up_to most text ≤ most
 unfolding lines_up_to

@@ -1,8 +1,8 @@
 -- A plan sheet and a list read line by line: the first line that is not as described.
 use Prim.Native.Nat.{ℕ, zero, suc, ◌+◌, ◌≤◌, ◌<◌}
-use mathlib.Core.Path.{◌≡◌, refl, sym, ap, ◌∙◌, subst}
+use mathlib.Core.Path.{◌≡◌, refl, sym, ap, ◌∙◌}
 use mathlib.Core.Bool.{Bool, true, false, not}
-use mathlib.Core.List.{List, [], ◌∷◌, ◌++◌}
+use mathlib.Core.List.{List, [], ◌∷◌}
 use native.Mathlib.Omega.{arith}
 use lib.ListN.{length, drop, drop_of_length-le}
 use lib.Seq.{drop-cons}
@@ -10,19 +10,16 @@ use borrow.Author.Tests.{le-leb, lt-leb}
 use Rattle.runs.specs.Run.{most_wants}
 use Rattle.runs.proofs.Search.{first_within}
 use Rattle.text_bytes.specs.Text.{line_feed, behind, is_empty, starts_with}
-use Rattle.text_lines.specs.declared.NumberLine.{NumberLine}
-use Rattle.text_lines.specs.declared.Lines.{Lines}
+use Rattle.std.specs.Prelude.{Result, Ok, Err}
+use Rattle.text_lines.specs.declared.BadLine.{BadLine}
 use Rattle.text_lines.specs.Lines.{line_of, line_after, after_lines, is_number_line, number_behind, is_pair_line, is_triple_line, first_bad_of}
-use Rattle.text_lines.specs.Found.{Passed, NumberLineFound, LinesPassed, LineBad, LinesFound}
-use Rattle.sheet_reader.specs.declared.NameLine.{NameLine}
+use Rattle.text_lines.specs.Found.{Passed, LinesPassed, LineBad}
 use Rattle.sheet_reader.specs.Lines.{tape_key, is_tape_line, is_count_line}
-use Rattle.sheet_reader.specs.Found.{NameLineFound}
 use Rattle.sheet_reader.specs.Sheet.{unless, shifted, first_some}
 use Rattle.sheet_writer.specs.PlanSheet.{sum_key, reads_key, finish_key, end_key, detours_key, detour_key, time_key}
-use Rattle.sheet_lists.specs.declared.Top.{Top}
 use Rattle.sheet_lists.specs.declared.Form.{Form}
 use Rattle.sheet_lists.specs.Form.{most_detours, lines_up_to, first_bad_to_end, first_failing, detours_told, detour_text, time_text, plan_bad_top, plan_bad_below, plan_bad_line, is_plan, list_bad_line, list_detours, list_text}
-use Rattle.sheet_lists.specs.Private.{TopIs, LineIs, TopFound, BelowAt, FormIs, FormFound, BelowFound}
+use Rattle.sheet_lists.specs.Private.{TopIs, LineIs, BelowAt, FormIs, FormFound, BelowFound}
 use Rattle.sheet_lists.proofs.Counting.{up_to_few}
 
 -- The lines of the top that are still to be passed.
@@ -54,46 +51,40 @@ module _ (plan : List ℕ) (passed : ℕ) (test : List ℕ → Bool) (tests : Li
   stops_here e = record { same = here.same ∙ rw e; some = omega arith }
 
 -- The tape's line.
-module _ (plan : List ℕ) (r : NameLine) (f : NameLineFound plan r) where
-  pub tape_bad : r ≡ NameLine.Bad → TopFound plan (Top.Bad 1)
+module _ (plan : List ℕ) where
+  pub tape_bad : is_tape_line (line_of plan) ≡ false → LineIs (plan_bad_top plan) 1
   unfolding plan_bad_top first_failing
-  tape_bad e = record { same = rw (subst (λ x. NameLineFound plan x) e f); some = omega arith }
+  tape_bad bad = record { same = rw bad; some = omega arith }
 
-  pub tape_good : (end next : ℕ) → r ≡ NameLine.Name end next → Reached plan 1 after_tape next
+  pub tape_good : (next : ℕ) → Passed is_tape_line plan 0 next → Reached plan 1 after_tape next
   unfolding plan_bad_top first_failing after_lines
-  tape_good end next e =
-      let p : Passed is_tape_line plan 0 next = (subst (λ x. NameLineFound plan x) e f).0 in
+  tape_good next p =
       let good : is_tape_line (line_of plan) ≡ true = rw (drop_none plan) at p.good in
       let rest : drop next plan ≡ behind line_feed plan = p.rest ∙ ap (behind line_feed) (drop_none plan) in
       record { same = rw (good, ← rest); rest = rest; within = p.within }
 
 -- A number's line.
-module _ (plan : List ℕ) (passed : ℕ) (key : List ℕ) (tests : List (List ℕ → Bool)) (at : ℕ) (here : Reached plan passed (is_number_line key ∷ tests) at) (r : NumberLine)
-    (f : NumberLineFound (is_number_line key) (number_behind key) plan at r) where
-  pub number_bad : r ≡ NumberLine.Bad → LineIs (plan_bad_top plan) (suc passed)
-  number_bad e = stops_here plan passed (is_number_line key) tests at here (subst (λ x. NumberLineFound (is_number_line key) (number_behind key) plan at x) e f)
+module _ (plan : List ℕ) (passed : ℕ) (key : List ℕ) (tests : List (List ℕ → Bool)) (at : ℕ) (here : Reached plan passed (is_number_line key ∷ tests) at) where
+  pub number_bad : is_number_line key (line_of (drop at plan)) ≡ false → LineIs (plan_bad_top plan) (suc passed)
+  number_bad bad = stops_here plan passed (is_number_line key) tests at here bad
 
-  pub number_good : (n next : ℕ) → r ≡ NumberLine.Value n next → Reached plan (suc passed) tests next
-  number_good n next e = one_more plan passed (is_number_line key) tests at here next (subst (λ x. NumberLineFound (is_number_line key) (number_behind key) plan at x) e f).0
+  pub number_good : (n next : ℕ) → Passed (is_number_line key) plan at next × (n ≡ number_behind key (line_of (drop at plan))) → Reached plan (suc passed) tests next
+  number_good n next p = one_more plan passed (is_number_line key) tests at here next p.0
 
 -- The number of detours.
-module _ (plan : List ℕ) (at : ℕ) (here : Reached plan 5 (is_count_line detours_key most_detours ∷ []) at) (r : NumberLine)
-    (f : NumberLineFound (is_number_line detours_key) (number_behind detours_key) plan at r) where
-  pub detours_bad : r ≡ NumberLine.Bad → TopFound plan (Top.Bad 6)
+module _ (plan : List ℕ) (at : ℕ) (here : Reached plan 5 (is_count_line detours_key most_detours ∷ []) at) where
+  pub detours_bad : is_number_line detours_key (line_of (drop at plan)) ≡ false → LineIs (plan_bad_top plan) 6
   unfolding is_count_line
-  detours_bad e = stops_here plan 5 (is_count_line detours_key most_detours) [] at here (rw (subst (λ x. NumberLineFound (is_number_line detours_key) (number_behind detours_key) plan at x) e f))
+  detours_bad bad = stops_here plan 5 (is_count_line detours_key most_detours) [] at here (rw bad)
 
-  module _ (n next : ℕ) (e : r ≡ NumberLine.Value n next) where
-    read : Passed (is_number_line detours_key) plan at next × (n ≡ number_behind detours_key (line_of (drop at plan)))
-    read = subst (λ x. NumberLineFound (is_number_line detours_key) (number_behind detours_key) plan at x) e f
-
-    pub detours_over : most_detours < n → TopFound plan (Top.Bad 6)
+  module _ (n next : ℕ) (read : Passed (is_number_line detours_key) plan at next × (n ≡ number_behind detours_key (line_of (drop at plan)))) where
+    pub detours_over : most_detours < n → LineIs (plan_bad_top plan) 6
     unfolding is_count_line
     detours_over l =
         stops_here plan 5 (is_count_line detours_key most_detours) [] at here
         (rw (read.0.good, lt-leb (number_behind detours_key (line_of (drop at plan))) most_detours (omega (arith, read.1))))
 
-    pub detours_good : n ≤ most_detours → TopFound plan (Top.Good n next)
+    pub detours_good : n ≤ most_detours → TopIs plan n next
     unfolding is_count_line first_failing detours_told detour_text
     detours_good l =
         let good : is_count_line detours_key most_detours (line_of (drop at plan)) ≡ true = rw (read.0.good, le-leb (number_behind detours_key (line_of (drop at plan))) most_detours (omega (arith, read.1))) in
@@ -136,7 +127,7 @@ module _ (test : List ℕ → Bool) (most : ℕ) (text : List ℕ) (at n : ℕ) 
 
 -- The lines below the first six.
 module _ (plan : List ℕ) (at detours : ℕ) (here : BelowAt plan at detours) where
-  pub below_bad : (line : ℕ) → LineBad (is_pair_line detour_key) plan at detours line → BelowFound plan (Form.Bad (6 + line))
+  pub below_bad : (line : ℕ) → LineBad (is_pair_line detour_key) plan at detours line → LineIs (plan_bad_below plan) (6 + line)
   unfolding plan_bad_below
   below_bad line b =
       let first : first_bad_of (is_pair_line detour_key) (detours_told plan) (detour_text plan) ≡ line = rw (← here.count, ← here.rest) b.first in
@@ -150,7 +141,7 @@ module _ (plan : List ℕ) (at detours : ℕ) (here : BelowAt plan at detours) w
     unfolding time_text
     times = sym (is ∙ ap (first_bad_to_end (is_triple_line time_key) most_wants) (p.rest ∙ rw (← here.count, ← here.rest)))
 
-    pub below_good : line ≡ 0 → BelowFound plan (Form.Good at detours)
+    pub below_good : line ≡ 0 → FormIs (plan_bad_below plan) (detours_told plan) (detour_text plan) plan at detours
     unfolding plan_bad_below
     below_good e =
         record {
@@ -162,7 +153,7 @@ module _ (plan : List ℕ) (at detours : ℕ) (here : BelowAt plan at detours) w
           passed = none;
         }
 
-    pub below_time : (line ≡ 0 → ⊥) → BelowFound plan (Form.Bad (detours + 6 + line))
+    pub below_time : (line ≡ 0 → ⊥) → LineIs (plan_bad_below plan) (detours + 6 + line)
     unfolding plan_bad_below
     below_time n =
         let some : 0 < line = omega arith in
@@ -172,25 +163,20 @@ module _ (plan : List ℕ) (at detours : ℕ) (here : BelowAt plan at detours) w
         }
 
 -- Both parts together.
-module _ (plan : List ℕ) (r : Top) (f : TopFound plan r) where
-  pub top_bad : (line : ℕ) → r ≡ Top.Bad line → FormFound (plan_bad_line plan) (detours_told plan) (detour_text plan) plan (Form.Bad line)
+module _ (plan : List ℕ) where
+  pub top_bad : (line : ℕ) → LineIs (plan_bad_top plan) line → LineIs (plan_bad_line plan) line
   unfolding plan_bad_line
-  top_bad line e =
-      let b : LineIs (plan_bad_top plan) line = subst (λ x. TopFound plan x) e f in
-      record { same = rw b.same (first_some_lem line (plan_bad_below plan ∷ []) b.some); some = b.some }
+  top_bad line b = record { same = rw b.same (first_some_lem line (plan_bad_below plan ∷ []) b.some); some = b.some }
 
-  module _ (detours next : ℕ) (e : r ≡ Top.Good detours next) where
-    top_is : TopIs plan detours next
-    top_is = subst (λ x. TopFound plan x) e f
-
+  module _ (detours next : ℕ) (top : TopIs plan detours next) where
     pub below_starts : BelowAt plan next detours
-    below_starts = record { count = top_is.count; few = top_is.few; within = top_is.within; rest = top_is.rest }
+    below_starts = record { count = top.count; few = top.few; within = top.within; rest = top.rest }
 
-    pub plan_found : (form : Form) → BelowFound plan form → FormFound (plan_bad_line plan) (detours_told plan) (detour_text plan) plan form
+    pub plan_found : (form : Result Form BadLine) → BelowFound plan form → FormFound (plan_bad_line plan) (detours_told plan) (detour_text plan) plan form
     unfolding plan_bad_line
-    plan_found (Form.Good at n) g =
-        record { none = rw (top_is.none, g.none); same = g.same; few = g.few; within = g.within; rest = g.rest; passed = g.passed }
-    plan_found (Form.Bad line) b = record { same = rw (top_is.none, b.same) (first_some_lem line [] b.some); some = b.some }
+    plan_found (Ok form) g =
+        record { none = rw (top.none, g.none); same = g.same; few = g.few; within = g.within; rest = g.rest; passed = g.passed }
+    plan_found (Err bad) b = record { same = rw (top.none, b.same) (first_some_lem bad.line [] b.some); some = b.some }
 
 -- A list of detours alone.
 module _ (list : List ℕ) (n : ℕ) (n-is : n ≡ lines_up_to most_detours list) where
@@ -200,17 +186,17 @@ module _ (list : List ℕ) (n : ℕ) (n-is : n ≡ lines_up_to most_detours list
   whole : first_bad_to_end (is_pair_line detour_key) most_detours (drop 0 list) ≡ first_bad_to_end (is_pair_line detour_key) most_detours list
   whole = ap (first_bad_to_end (is_pair_line detour_key) most_detours) (drop_none list)
 
-  abbrev pub BareFound : Form → Type 0
-  BareFound form = FormFound (first_bad_to_end (is_pair_line detour_key) most_detours list) (lines_up_to most_detours list) list list form
+  abbrev first : ℕ
+  first = first_bad_to_end (is_pair_line detour_key) most_detours list
 
-  pub bare_bad : (line : ℕ) → LineBad (is_pair_line detour_key) list 0 n line → BareFound (Form.Bad line)
+  pub bare_bad : (line : ℕ) → LineBad (is_pair_line detour_key) list 0 n line → LineIs first line
   bare_bad line b = record { same = sym (to_end_bad (is_pair_line detour_key) most_detours list 0 n here line b ∙ whole); some = b.some }
 
   module _ (next : ℕ) (p : LinesPassed (is_pair_line detour_key) list 0 n next) where
-    pub bare_more : next < length list → BareFound (Form.Bad (n + 1))
+    pub bare_more : next < length list → LineIs first (n + 1)
     bare_more l = record { same = sym (to_end_more (is_pair_line detour_key) most_detours list 0 n here next p l ∙ whole); some = omega arith }
 
-    pub bare_good : length list ≤ next → BareFound (Form.Good 0 n)
+    pub bare_good : length list ≤ next → FormIs first (lines_up_to most_detours list) list list 0 n
     bare_good l =
         record {
           none = sym (to_end_good (is_pair_line detour_key) most_detours list 0 n here next p l ∙ whole);
@@ -233,7 +219,7 @@ to_end_small test most text line e =
     two_small (suc a) n b l = omega arith
 
 -- A list that begins as a plan sheet does, and one that does not.
-module _ (list : List ℕ) (b : Bool) (is : b ≡ starts_with tape_key list) (form : Form) where
+module _ (list : List ℕ) (b : Bool) (is : b ≡ starts_with tape_key list) (form : Result Form BadLine) where
   pub listed_plan : b ≡ true → FormFound (plan_bad_line list) (detours_told list) (detour_text list) list form → FormFound (list_bad_line list) (list_detours list) (list_text list) list form
   unfolding is_plan list_bad_line list_detours list_text
   listed_plan e h = let t : starts_with tape_key list ≡ true = sym is ∙ e in rw t h

@@ -7,8 +7,8 @@ use mathlib.Core.Logic.{⊎_elim}
 use native.Mathlib.Omega.{arith}
 use native.Mathlib.Decide.{dec_lt}
 use lib.ListN.{length, get_or, length-append}
-use lib.Dec.{ltb, eqb}
-use borrow.Author.Tests.{le-ltb, eq-eqb}
+use lib.Dec.{eqb}
+use borrow.Author.Tests.{le-ltb}
 use Rattle.refusals.specs.Refusals.{accepted}
 use Rattle.refusals.proofs.Verdicts.{refuses}
 use Rattle.runs.specs.Run.{Run, Stop, total, stops_of, want_stops_of, most_wants}
@@ -25,8 +25,8 @@ use Rattle.walk.specs.Price.{priced_answer, priced_times, priced_legs}
 use Rattle.walk.proofs.Filling.{one_each}
 use Rattle.walk.proofs.Walks.{GoodList, accepted_list, rows_fit, entries_few, entries_none}
 use Rattle.walk.proofs.Laws.{sum_below_lem, finish_below}
-use Rattle.text_bytes.specs.Text.{line_feed, has, behind, starts_with, is_name, is_name_byte, between, all_of, is_empty, decimal}
-use Rattle.text_bytes.proofs.Bytes.{and_true_both, not_empty}
+use Rattle.text_bytes.specs.Text.{line_feed, has, behind, starts_with, is_name, is_name_byte, between, all_of, decimal}
+use Rattle.text_bytes.proofs.Bytes.{and_true_both}
 use Rattle.text_bytes.proofs.Decimals.{has_none, decimal_without}
 use Rattle.text_lines.specs.Lines.{line_of, after_lines, line_after, is_number_line, number_behind, is_pair_line, first_in, second_in, is_triple_line, first_bad_of, each_of}
 use Rattle.sheet_reader.specs.Lines.{tape_key, is_tape_line, is_count_line}

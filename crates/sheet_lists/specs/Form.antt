@@ -1,6 +1,6 @@
 -- A plan sheet handed in, whoever made it, and a detour list: which lines must stand where, the first that is not as described, and the list that
 -- each holds. Whether the list is well formed and whether the numbers are the walk's is not asked here.
-use Rattle.std.specs.Prelude.{ℕ, suc, zero, ◌+◌, Bool, cond, List, [], ◌∷◌, eqb, ltb}
+use Rattle.std.specs.Prelude.{ℕ, suc, ◌+◌, Bool, cond, List, [], ◌∷◌, eqb, ltb}
 use Rattle.runs.specs.Run.{most_wants}
 use Rattle.text_bytes.specs.Text.{line_feed, is_empty, behind, starts_with}
 use Rattle.text_lines.specs.Lines.{line_of, line_after, after_lines, is_number_line, number_behind, is_pair_line, first_in, second_in, is_triple_line, first_bad_of, each_of}

@@ -1,5 +1,5 @@
 -- What the readers of a detour list and of a plan sheet answer, for every input of bytes, and the rows that they leave.
-use Rattle.std.specs.Prelude.{ℕ, ◌≡◌, cond, ◌||◌, List, [], ◌∷◌, length, ltb}
+use Rattle.std.specs.Prelude.{ℕ, ◌≡◌, cond, List, [], ◌∷◌, length, ltb}
 use Rattle.refusals.specs.declared.Refusal.TheVariants.{BadLine, LongSheet, ShortRow}
 use Rattle.refusals.specs.declared.Verdict.{Verdict}
 use Rattle.refusals.specs.Refusals.{is_refusal, refuse_if, refuse_at, first_of}

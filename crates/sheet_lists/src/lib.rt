@@ -2,7 +2,7 @@
 // What the words mean stands in specs/; each public function answers every input, and its contract gives the answer and both lent rows.
 #![tactic(auto)]
 
-ghost use Rattle.std.specs.Prelude.{◌≡◌, ◌≤◌, length, drop};
+ghost use Rattle.std.specs.Prelude.{◌≡◌, ◌||◌, ◌≤◌, length, drop, ltb};
 ghost use Rattle.text_lines.specs.Lines.{is_pair_line, is_triple_line};
 ghost use Rattle.runs.specs.Run.{most_wants};
 ghost use Rattle.sheet_writer.specs.PlanSheet.{detour_key, time_key};
@@ -10,9 +10,9 @@ ghost use Rattle.sheet_lists.specs.Form.{most_detours, lines_in, lines_up_to, fi
 ghost use Rattle.sheet_lists.specs.Reading.{PlanRead, ListRead};
 ghost use Rattle.sheet_lists.specs.Private.{TopFound, BelowAt, BelowFound, FormFound, FormWithin, ReadAs};
 
-use refusals::{Refusal, Verdict, refuse_at, refuse_if, refused};
-use sheet_reader::{NameLine, tape_line};
-use text_lines::{Lines, NumberLine, fill_pairs, number_line, pair_lines, triple_lines};
+use refusals::{Refusal, Verdict};
+use sheet_reader::tape_line;
+use text_lines::{BadLine, fill_pairs, number_line, pair_lines, triple_lines};
 
 // The limits of a list and of a plan sheet's times. Both are inclusive.
 pub const MOST_DETOURS: u64 = 63;
@@ -20,36 +20,35 @@ pub const MOST_DETOURS: u64 = 63;
 pub const MOST_TIMES: u64 = 64;
 
 // What a reader answers: on a refusal the number of detours is 0.
+// Stays: `ListReaderAnswers` in the promises reads verdict and detours of this record, 0 on a refusal, so that it is no Result.
 #[derive(Clone, Copy)]
 pub struct ListReading {
     pub verdict: Verdict,
     pub detours: u64,
 }
 
-// The first six lines of a plan sheet: the number of detours and where the next line starts; or the first line that is not as described.
+// The first six lines of a plan sheet: the number of detours and where the next line starts.
 #[derive(Clone, Copy)]
-enum Top {
-    Good { detours: u64, next: usize },
-    Bad(u64),
+struct Top {
+    detours: u64,
+    next: usize,
 }
 
-// Where the detour lines start and how many they are; or the first line that is not as described.
+// Where the detour lines start and how many they are.
 #[derive(Clone, Copy)]
-enum Form {
-    Good { at: usize, detours: u64 },
-    Bad(u64),
+struct Form {
+    at: usize,
+    detours: u64,
 }
 
 fn count_lines(text: &[u8]) -> u64
     ensures { result ≡ lines_in text.now }
 {
     let mut lines: u64 = 0;
-    let mut i: usize = 0;
-    while i < text.len() {
-        if text[i] == b'\n' {
+    for &byte in text {
+        if byte == b'\n' {
             lines += 1;
         }
-        i += 1;
     }
     lines
 }
@@ -57,42 +56,37 @@ fn count_lines(text: &[u8]) -> u64
 fn lines_up_to(text: &[u8], most: u64) -> u64
     ensures { result ≡ lines_up_to most text.now }
 {
-    let lines = count_lines(text);
-    if most < lines {
-        return most;
-    }
-    lines
+    count_lines(text).min(most)
 }
 
-fn read_top(plan: &[u8]) -> Top
+fn read_top(plan: &[u8]) -> Result<Top, BadLine>
     ensures { TopFound plan.now result }
 {
-    let NameLine::Name { end: _, next } = tape_line(plan) else {
-        return Top::Bad(1);
+    let Some(name) = tape_line(plan) else {
+        return Err(BadLine { line: 1 });
     };
-    let NumberLine::Value { number: _, next } = number_line(plan, next, b"sum=") else {
-        return Top::Bad(2);
+    let Some(sum) = number_line(plan, name.next, b"sum=") else {
+        return Err(BadLine { line: 2 });
     };
-    let NumberLine::Value { number: _, next } = number_line(plan, next, b"reads=") else {
-        return Top::Bad(3);
+    let Some(reads) = number_line(plan, sum.next, b"reads=") else {
+        return Err(BadLine { line: 3 });
     };
-    let NumberLine::Value { number: _, next } = number_line(plan, next, b"finish=") else {
-        return Top::Bad(4);
+    let Some(finish) = number_line(plan, reads.next, b"finish=") else {
+        return Err(BadLine { line: 4 });
     };
-    let NumberLine::Value { number: _, next } = number_line(plan, next, b"end=") else {
-        return Top::Bad(5);
+    let Some(end) = number_line(plan, finish.next, b"end=") else {
+        return Err(BadLine { line: 5 });
     };
-    let NumberLine::Value {
-        number: detours,
-        next,
-    } = number_line(plan, next, b"detours=")
-    else {
-        return Top::Bad(6);
+    let Some(detours) = number_line(plan, end.next, b"detours=") else {
+        return Err(BadLine { line: 6 });
     };
-    if MOST_DETOURS < detours {
-        return Top::Bad(6);
+    if MOST_DETOURS < detours.number {
+        return Err(BadLine { line: 6 });
     }
-    Top::Good { detours, next }
+    Ok(Top {
+        detours: detours.number,
+        next: detours.next,
+    })
 }
 
 // The first bad line of those from a position to the end, each of which must be a time's.
@@ -102,54 +96,49 @@ fn bad_time(plan: &[u8], at: usize) -> u64
 {
     let times = lines_up_to(&plan[at..], MOST_TIMES);
     match triple_lines(plan, at, b"time=", times) {
-        Lines::Bad(line) => line,
-        Lines::End(next) => { if next < plan.len() { times + 1 } else { 0 } }
+        Err(bad) => bad.line,
+        Ok(next) if next < plan.len() => times + 1,
+        Ok(_) => 0,
     }
 }
 
-fn read_below(plan: &[u8], at: usize, detours: u64) -> Form
+fn read_below(plan: &[u8], at: usize, detours: u64) -> Result<Form, BadLine>
     requires { BelowAt plan.now at detours }
     ensures { BelowFound plan.now result }
 {
     match pair_lines(plan, at, b"detour=", detours) {
-        Lines::Bad(line) => Form::Bad(6 + line),
-        Lines::End(next) => {
+        Err(bad) => Err(BadLine { line: 6 + bad.line }),
+        Ok(next) => {
             let line = bad_time(plan, next);
-            if line == 0 {
-                Form::Good { at, detours }
-            } else {
-                Form::Bad(detours + 6 + line)
+            if line != 0 {
+                return Err(BadLine {
+                    line: detours + 6 + line,
+                });
             }
+            Ok(Form { at, detours })
         }
     }
 }
 
-fn judge_plan(plan: &[u8]) -> Form
+fn judge_plan(plan: &[u8]) -> Result<Form, BadLine>
     ensures { FormFound (plan_bad_line plan.now) (detours_told plan.now) (detour_text plan.now) plan.now result }
 {
-    match read_top(plan) {
-        Top::Bad(line) => Form::Bad(line),
-        Top::Good { detours, next } => read_below(plan, next, detours),
-    }
+    let top = read_top(plan)?;
+    read_below(plan, top.next, top.detours)
 }
 
-fn judge_bare(list: &[u8]) -> Form
+fn judge_bare(list: &[u8]) -> Result<Form, BadLine>
     ensures { FormFound (first_bad_to_end (is_pair_line detour_key) most_detours list.now) (lines_up_to most_detours list.now) list.now list.now result }
 {
     let detours = lines_up_to(list, MOST_DETOURS);
-    match pair_lines(list, 0, b"detour=", detours) {
-        Lines::Bad(line) => Form::Bad(line),
-        Lines::End(next) => {
-            if next < list.len() {
-                Form::Bad(detours + 1)
-            } else {
-                Form::Good { at: 0, detours }
-            }
-        }
+    let next = pair_lines(list, 0, b"detour=", detours)?;
+    if next < list.len() {
+        return Err(BadLine { line: detours + 1 });
     }
+    Ok(Form { at: 0, detours })
 }
 
-fn judge_list(list: &[u8]) -> Form
+fn judge_list(list: &[u8]) -> Result<Form, BadLine>
     ensures { FormFound (list_bad_line list.now) (list_detours list.now) (list_text list.now) list.now result }
 {
     if text_bytes::starts(list, b"tape=") {
@@ -158,32 +147,42 @@ fn judge_list(list: &[u8]) -> Form
     judge_bare(list)
 }
 
+// Whether one of two rows of these lengths is shorter than the list.
+fn is_short(detours: u64, froms: usize, tos: usize) -> bool
+    ensures { result ≡ ltb froms detours || ltb tos detours }
+{
+    (froms as u64) < detours || (tos as u64) < detours
+}
+
 // The answer to a form: its line refused by 11, a row too short by 8, or the list in the rows.
-fn read_as(list: &[u8], form: Form, froms: &mut [u64], tos: &mut [u64]) -> ListReading
+fn read_as(
+    list: &[u8],
+    form: Result<Form, BadLine>,
+    froms: &mut [u64],
+    tos: &mut [u64],
+) -> ListReading
     requires { FormWithin list.now form }
     ensures { ReadAs list.now form froms.old tos.old result froms.new tos.new }
 {
     match form {
-        Form::Bad(line) => ListReading {
-            verdict: refuse_at(line, Refusal::BadLine),
+        Err(bad) => ListReading {
+            verdict: Verdict {
+                refusal: Refusal::BadLine,
+                place: bad.line,
+            },
             detours: 0,
         },
-        Form::Good { at, detours } => {
-            if (froms.len() as u64) < detours {
+        Ok(Form { at, detours }) => {
+            let short = is_short(detours, froms.len(), tos.len());
+            if let Err(refusal) = Refusal::ShortRow.when(short) {
                 return ListReading {
-                    verdict: refuse_if(true, Refusal::ShortRow),
-                    detours: 0,
-                };
-            }
-            if (tos.len() as u64) < detours {
-                return ListReading {
-                    verdict: refuse_if(true, Refusal::ShortRow),
+                    verdict: refusal,
                     detours: 0,
                 };
             }
             fill_pairs(list, at, b"detour=", detours, froms, tos);
             ListReading {
-                verdict: refuse_if(false, Refusal::ShortRow),
+                verdict: Verdict::accepted(),
                 detours,
             }
         }
@@ -194,10 +193,9 @@ fn read_as(list: &[u8], form: Form, froms: &mut [u64], tos: &mut [u64]) -> ListR
 pub fn read_plan(plan: &[u8], froms: &mut [u64], tos: &mut [u64]) -> ListReading
     ensures { PlanRead plan.now froms.old tos.old result froms.new tos.new }
 {
-    let long = refuse_if(sheet_reader::LONGEST_SHEET < plan.len(), Refusal::LongSheet);
-    if refused(long) {
+    if let Err(refusal) = Refusal::LongSheet.when(sheet_reader::LONGEST_SHEET < plan.len()) {
         return ListReading {
-            verdict: long,
+            verdict: refusal,
             detours: 0,
         };
     }
@@ -205,13 +203,13 @@ pub fn read_plan(plan: &[u8], froms: &mut [u64], tos: &mut [u64]) -> ListReading
 }
 
 // The list of a plan sheet, or of lines of detours alone: 12, 11 and 8.
+// Stays: two lines as in read_plan; one function over the judging that is passed in would be longer than both.
 pub fn read_list(list: &[u8], froms: &mut [u64], tos: &mut [u64]) -> ListReading
     ensures { ListRead list.now froms.old tos.old result froms.new tos.new }
 {
-    let long = refuse_if(sheet_reader::LONGEST_SHEET < list.len(), Refusal::LongSheet);
-    if refused(long) {
+    if let Err(refusal) = Refusal::LongSheet.when(sheet_reader::LONGEST_SHEET < list.len()) {
         return ListReading {
-            verdict: long,
+            verdict: refusal,
             detours: 0,
         };
     }

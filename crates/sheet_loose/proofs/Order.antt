@@ -1,6 +1,6 @@
 -- The lines of a loose sheet in turn: what each reader's answer says of the first line that is not as described.
 use Prim.Native.Nat.{ℕ, zero, suc, ◌+◌, ◌-◌, ◌≤◌, ◌<◌}
-use mathlib.Core.Path.{◌≡◌, refl, ap, sym, ◌∙◌, subst}
+use mathlib.Core.Path.{◌≡◌, refl, ap, sym, ◌∙◌}
 use mathlib.Core.Bool.{Bool, true, false}
 use mathlib.Core.List.{List, [], ◌∷◌}
 use native.Mathlib.Omega.{arith}
@@ -8,16 +8,13 @@ use lib.ListN.{length, drop, drop_of_length-le}
 use lib.Seq.{drop-cons}
 use lib.Dec.{eqb}
 use Rattle.text_bytes.specs.Text.{line_feed, behind, is_empty}
-use Rattle.text_lines.specs.Lines.{line_of, after_lines, line_after, is_number_line, number_behind, is_pair_line, is_triple_line, first_bad_of}
+use Rattle.text_lines.specs.Lines.{line_of, after_lines, line_after, is_number_line, number_behind, is_pair_line, is_triple_line}
 use Rattle.text_lines.specs.Found.{Passed}
 use Rattle.sheet_reader.specs.Lines.{head_key, files_key, file_key, wants_key, want_key, is_tape_line, is_turn_line, turn_in, is_rule_line, names_sweep}
 use Rattle.sheet_reader.specs.Sheet.{longest_sheet, most_sheet_files, sheet_turn_with, says_sweep, sheet_files, file_text, first_some}
 use Rattle.sheet_loose.specs.declared.Block.{Block}
-use Rattle.sheet_loose.specs.declared.Top.{Top}
-use Rattle.sheet_loose.specs.declared.TopRead.{TopRead}
-use Rattle.sheet_loose.specs.declared.BelowRead.{BelowRead}
 use Rattle.sheet_loose.specs.Loose.{loose_files, loose_wants_text, loose_want_text, loose_wants, loose_end, wants_said, price_left_out, first_bad_loose_top, first_bad_loose_below}
-use Rattle.sheet_loose.specs.Private.{Stands, TopIs, TopBad, TopFound, BlockFound, WantsAt, BelowIs, BelowBad, BelowFound}
+use Rattle.sheet_loose.specs.Private.{Stands, TopIs, TopBad, BlockFound, WantsAt, BelowIs, BelowBad}
 use Rattle.sheet_loose.proofs.Passing.{price_empty, turn_after}
 
 -- So many lines passed, and one more.
@@ -161,18 +158,3 @@ module _ (sheet : List ℕ) (at files : ℕ) (p : WantsAt sheet at files) where
             here = want_here;
             good = f.none;
           }
-
--- What the readers of the parts answered.
-module _ (sheet : List ℕ) (r : TopRead) (found : TopFound sheet r) where
-  pub top_read : (top : Top) → r ≡ TopRead.Good top → TopIs sheet top
-  top_read top e = subst (λ k. TopFound sheet k) e found
-
-  pub top_failed : (line : ℕ) → r ≡ TopRead.Bad line → TopBad sheet line
-  top_failed line e = subst (λ k. TopFound sheet k) e found
-
-module _ (sheet : List ℕ) (r : BelowRead) (found : BelowFound sheet r) where
-  pub below_read : (said at wants : ℕ) → r ≡ BelowRead.Good said at wants → BelowIs sheet said at wants
-  below_read said at wants e = subst (λ k. BelowFound sheet k) e found
-
-  pub below_failed : (line : ℕ) → r ≡ BelowRead.Bad line → BelowBad sheet line
-  below_failed line e = subst (λ k. BelowFound sheet k) e found

@@ -1,47 +1,21 @@
 -- Single lines of a loose sheet: what their readers answered, where the next one starts, and lines of one kind as many as come.
 use Prim.Native.Nat.{ℕ, zero, suc, ◌+◌, ◌-◌, ◌*◌, ◌≤◌, ◌<◌}
-use mathlib.Core.Path.{◌≡◌, refl, ap, sym, ◌∙◌, subst}
+use mathlib.Core.Path.{◌≡◌, refl, ap, sym, ◌∙◌}
 use mathlib.Core.Bool.{Bool, true, false, not}
-use mathlib.Core.List.{List, [], ◌∷◌, ◌++◌}
+use mathlib.Core.List.{List, [], ◌∷◌}
 use native.Mathlib.Omega.{arith}
 use lib.ListN.{length, drop, length-append, length-drop}
 use lib.Dec.{eqb}
 use borrow.Author.Tests.{eq-eqb, ne_eqb, eqb-true, eqb-false, not-false}
 use Rattle.refusals.specs.Refusals.{first_where}
-use Rattle.runs.proofs.Search.{first_before, first_all, first_zero, first_none}
-use Rattle.text_bytes.specs.Text.{line_feed, behind, is_empty, is_number, starts_with}
+use Rattle.runs.proofs.Search.{first_before, first_all, first_zero}
+use Rattle.text_bytes.specs.Text.{line_feed, behind, is_empty, starts_with}
 use Rattle.text_bytes.proofs.Bytes.{and_true_both, begun_long}
-use Rattle.text_lines.specs.declared.NumberLine.{NumberLine}
 use Rattle.text_lines.specs.Lines.{line_of, after_lines, line_after, value_text, is_pair, is_pair_line, first_bad_of, lines_before}
-use Rattle.text_lines.specs.Found.{Passed, NumberLineFound, LinesPassed, LineBad}
-use Rattle.sheet_reader.specs.declared.NameLine.{NameLine}
-use Rattle.sheet_reader.specs.declared.RuleLine.{RuleLine}
-use Rattle.sheet_reader.specs.Lines.{turn_key, want_key, is_tape_line, is_turn_line, is_rule_line, names_sweep}
-use Rattle.sheet_reader.specs.Found.{NamePart, NameLineFound, RuleLineFound}
+use Rattle.text_lines.specs.Found.{Passed, LinesPassed, LineBad}
+use Rattle.sheet_reader.specs.Lines.{turn_key, want_key, is_turn_line}
 use Rattle.sheet_reader.proofs.Good.{line_split}
-use Rattle.sheet_loose.specs.Private.{Stands, BlockFound}
-
--- What the readers of a line answered.
-module _ (sheet : List ℕ) (r : NameLine) (found : NameLineFound sheet r) where
-  pub name_unread : r ≡ NameLine.Bad → is_tape_line (line_of sheet) ≡ false
-  name_unread e = subst (λ k. NameLineFound sheet k) e found
-
-  pub name_read : (end next : ℕ) → r ≡ NameLine.Name end next → Passed is_tape_line sheet 0 next
-  name_read end next e = let both : Passed is_tape_line sheet 0 next × NamePart sheet end = subst (λ k. NameLineFound sheet k) e found in both.0
-
-module _ (test : List ℕ → Bool) (value : List ℕ → ℕ) (sheet : List ℕ) (at : ℕ) (r : NumberLine) (found : NumberLineFound test value sheet at r) where
-  pub number_unread : r ≡ NumberLine.Bad → test (line_of (drop at sheet)) ≡ false
-  number_unread e = subst (λ k. NumberLineFound test value sheet at k) e found
-
-  pub number_read : (n next : ℕ) → r ≡ NumberLine.Value n next → Passed test sheet at next × (n ≡ value (line_of (drop at sheet)))
-  number_read n next e = subst (λ k. NumberLineFound test value sheet at k) e found
-
-module _ (sheet : List ℕ) (at : ℕ) (r : RuleLine) (found : RuleLineFound sheet at r) where
-  pub rule_unread : r ≡ RuleLine.Bad → is_rule_line (line_of (drop at sheet)) ≡ false
-  rule_unread e = subst (λ k. RuleLineFound sheet at k) e found
-
-  pub rule_read : (sweep : Bool) (next : ℕ) → r ≡ RuleLine.Value sweep next → Passed is_rule_line sheet at next × (sweep ≡ names_sweep (line_of (drop at sheet)))
-  rule_read sweep next e = subst (λ k. RuleLineFound sheet at k) e found
+use Rattle.sheet_loose.specs.Private.{BlockFound}
 
 -- A line that begins with a key and what stands behind it.
 pub line_long : (k : ℕ) (key text : List ℕ) → starts_with (k ∷ key) (line_of text) ≡ true

@@ -1,6 +1,6 @@
 -- A loose sheet: a run sheet as it comes by mail, before it is mended. Its lines are document 01's, in its order and form, but for the two counts: after
 -- `files=` stands any number and up to 256 file lines follow, after `wants=` any number and want lines to the end.
-use Rattle.std.specs.Prelude.{ℕ, ◌+◌, Bool, List, [], ◌∷◌, length}
+use Rattle.std.specs.Prelude.{ℕ, ◌+◌, Bool, List, [], ◌∷◌}
 use Rattle.text_bytes.specs.Text.{is_empty}
 use Rattle.text_lines.specs.Lines.{line_of, after_lines, line_after, value_text, is_number_line, number_behind, is_pair_line, first_in, second_in, is_triple_line, first_bad_of, each_of, lines_before}
 use Rattle.sheet_reader.specs.Lines.{head_key, turn_key, files_key, file_key, wants_key, want_key, is_tape_line, is_turn_line, is_rule_line}

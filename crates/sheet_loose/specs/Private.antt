@@ -1,17 +1,17 @@
 -- What the functions that read parts of a loose sheet find, by cases of their answers. No public contract cites this file.
-use Rattle.std.specs.Prelude.{ℕ, ◌≤◌, ◌<◌, ◌≡◌, Bool, true, false, cond, ◌||◌, List, length, drop, ltb}
-use Rattle.refusals.specs.declared.Refusal.TheVariants.{ShortRow}
-use Rattle.refusals.specs.Refusals.{is_refusal, refuse_if}
+use Rattle.std.specs.Prelude.{ℕ, ◌≤◌, ◌<◌, ◌≡◌, Bool, List, length, drop, Result, Ok, Err}
+use Rattle.refusals.specs.declared.Verdict.{Verdict}
+use Rattle.refusals.specs.Refusals.{checked}
 use Rattle.text_lines.specs.Lines.{after_lines, is_pair_line, first_bad_of, lines_before}
 use Rattle.sheet_reader.specs.Lines.{want_key}
 use Rattle.sheet_reader.specs.Sheet.{most_sheet_files, sheet_turn, says_sweep, sheet_files, file_text}
 use Rattle.sheet_loose.specs.declared.Parts.{Parts}
 use Rattle.sheet_loose.specs.declared.Top.{Top}
-use Rattle.sheet_loose.specs.declared.TopRead.{TopRead}
+use Rattle.text_lines.specs.declared.BadLine.{BadLine}
 use Rattle.sheet_loose.specs.declared.Block.{Block}
-use Rattle.sheet_loose.specs.declared.BelowRead.{BelowRead}
-use Rattle.sheet_loose.specs.Loose.{loose_files, loose_wants_text, loose_want_text, loose_wants, wants_said, price_left_out, first_bad_loose_top, first_bad_loose_below}
-use Rattle.sheet_loose.specs.Reading.{loose_verdict, refused_parts, loose_parts}
+use Rattle.sheet_loose.specs.declared.Below.{Below}
+use Rattle.sheet_loose.specs.Loose.{loose_files, loose_wants_text, loose_want_text, loose_wants, wants_said, price_left_out, first_bad_loose_top, first_bad_loose_below, first_bad_loose}
+use Rattle.sheet_loose.specs.Reading.{loose_verdict, sheet_parts}
 
 -- A text that ends a sheet stands at a position.
 pub record Stands (sheet text : List ℕ) (at : ℕ) : Type 0 where
@@ -32,9 +32,9 @@ pub record TopBad (sheet : List ℕ) (line : ℕ) : Type 0 where
   pub first : first_bad_loose_top sheet ≡ line
   pub some : 0 < line
 
-abbrev pub TopFound : List ℕ → TopRead → Type 0
-TopFound sheet (TopRead.Good top) = TopIs sheet top
-TopFound sheet (TopRead.Bad line) = TopBad sheet line
+abbrev pub TopFound : List ℕ → Result Top BadLine → Type 0
+TopFound sheet (Ok top) = TopIs sheet top
+TopFound sheet (Err bad) = TopBad sheet bad.line
 
 -- Lines of one kind, as many as come and no more than so many.
 pub record BlockFound (test : List ℕ → Bool) (most : ℕ) (sheet : List ℕ) (at : ℕ) (r : Block) : Type 0 where
@@ -61,18 +61,30 @@ pub record BelowBad (sheet : List ℕ) (line : ℕ) : Type 0 where
   pub first : first_bad_loose_below sheet ≡ line
   pub some : 0 < line
 
-abbrev pub BelowFound : List ℕ → BelowRead → Type 0
-BelowFound sheet (BelowRead.Good said at wants) = BelowIs sheet said at wants
-BelowFound sheet (BelowRead.Bad line) = BelowBad sheet line
+abbrev pub BelowFound : List ℕ → Result Below BadLine → Type 0
+BelowFound sheet (Ok below) = BelowIs sheet below.said below.at below.wants
+BelowFound sheet (Err bad) = BelowBad sheet bad.line
 
--- The parts of a sheet, and that its want lines are as described, whatever 12 and 11 say: on a refusal there are none.
-pub record PartsFound (sheet : List ℕ) (parts : Parts) : Type 0 where
-  pub same : parts ≡ loose_parts (loose_verdict sheet) sheet
-  pub within : parts.body ≤ length sheet
+-- All lines of a sheet: its parts, and that its want lines are as described.
+pub record PartsAre (sheet : List ℕ) (parts : Parts) : Type 0 where
+  pub none : first_bad_loose sheet ≡ 0
+  pub same : parts ≡ sheet_parts sheet
   pub good : first_bad_of (is_pair_line want_key) parts.wants (drop parts.body sheet) ≡ 0
-  pub rest : is_refusal (loose_verdict sheet).refusal ≡ false → drop parts.body sheet ≡ loose_want_text sheet
+  pub rest : drop parts.body sheet ≡ loose_want_text sheet
 
--- The same with 8.
-abbrev pub rows_judged : Parts → ℕ → ℕ → Parts
-rows_judged parts wanted counts =
-    cond (ltb wanted parts.wants || ltb counts parts.wants) (refused_parts (refuse_if true ShortRow)) parts
+pub record LineBad (sheet : List ℕ) (line : ℕ) : Type 0 where
+  pub first : first_bad_loose sheet ≡ line
+  pub some : 0 < line
+
+abbrev pub LinesFound : List ℕ → Result Parts BadLine → Type 0
+LinesFound sheet (Ok parts) = PartsAre sheet parts
+LinesFound sheet (Err bad) = LineBad sheet bad.line
+
+-- What 12 and 11 say of a sheet.
+pub record PartsGood (sheet : List ℕ) (parts : Parts) : Type 0 where
+  pub accepted : Ok tt ≡ checked (loose_verdict sheet)
+  pub are : PartsAre sheet parts
+
+abbrev pub PartsFound : List ℕ → Result Parts Verdict → Type 0
+PartsFound sheet (Ok parts) = PartsGood sheet parts
+PartsFound sheet (Err v) = Err v ≡ checked (loose_verdict sheet)

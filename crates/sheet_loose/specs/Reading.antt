@@ -1,5 +1,5 @@
 -- What the reader of a loose sheet answers, for every input of bytes, and the two rows that it leaves.
-use Rattle.std.specs.Prelude.{ℕ, ◌-◌, ◌≡◌, cond, ◌||◌, false, List, [], ◌∷◌, length, ltb}
+use Rattle.std.specs.Prelude.{ℕ, ◌-◌, ◌≡◌, cond, false, List, [], ◌∷◌, length, ltb}
 use Rattle.refusals.specs.declared.Refusal.TheVariants.{BadLine, LongSheet, ShortRow}
 use Rattle.refusals.specs.declared.Verdict.{Verdict}
 use Rattle.refusals.specs.Refusals.{is_refusal, accepted, refuse_if, refuse_at, first_of}

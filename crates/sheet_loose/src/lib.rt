@@ -2,22 +2,21 @@
 // For the mender, which sees only this contract. What the words mean stands in specs/.
 #![tactic(auto)]
 
-ghost use Rattle.std.specs.Prelude.{◌≤◌, ◌≡◌, length};
+ghost use Rattle.std.specs.Prelude.{◌≤◌, ◌≡◌, ◌||◌, length, ltb};
 ghost use Rattle.text_lines.specs.Lines.{is_pair_line, is_triple_line};
 ghost use Rattle.sheet_reader.specs.Lines.{file_key, want_key};
 ghost use Rattle.sheet_reader.specs.Sheet.{longest_sheet, most_sheet_files};
 ghost use Rattle.sheet_loose.specs.Reading.{refused_parts, LooseRead};
-ghost use Rattle.sheet_loose.specs.Private.{TopFound, BlockFound, WantsAt, BelowFound, PartsFound, rows_judged};
+ghost use Rattle.sheet_loose.specs.Private.{TopFound, BlockFound, WantsAt, BelowFound, LinesFound, PartsFound};
 
-use refusals::{Refusal, Verdict, refuse_at, refuse_if, refused};
-use sheet_reader::{
-    LONGEST_SHEET, MOST_SHEET_FILES, NameLine, RuleLine, rule_line, tape_line, turn_line,
-};
-use text_lines::{Lines, NumberLine, fill_pairs, number_line, pair_lines, triple_lines};
+use refusals::{Refusal, Verdict};
+use sheet_reader::{LONGEST_SHEET, MOST_SHEET_FILES, rule_line, tape_line, turn_line};
+use text_lines::{BadLine, fill_pairs, number_line, pair_lines, triple_lines};
 
 // The parts of a sheet: where its third line starts, the price, whether that is left out, and whether the rule is the retired one; how many file lines
 // `files=` says, where they start and how many there are; where the `wants` line starts, how many want lines it says, where they start and how many
 // there are. On a refusal every number is 0.
+// Stays: `PartsTold` and `NoParts` in the promises read each number and flag of this record, 0 and false on a refusal, so that it is no Result.
 #[derive(Clone, Copy)]
 pub struct Parts {
     pub verdict: Verdict,
@@ -35,6 +34,7 @@ pub struct Parts {
 }
 
 // The first five lines.
+// Stays: both flags are fields of `Parts`, which `PartsTold` in the promises reads as flags.
 #[derive(Clone, Copy)]
 struct Top {
     third: usize,
@@ -43,12 +43,6 @@ struct Top {
     sweep: bool,
     said: u64,
     next: usize,
-}
-
-#[derive(Clone, Copy)]
-enum TopRead {
-    Good(Top),
-    Bad(u64),
 }
 
 // So many lines of one kind, and where the next line starts.
@@ -60,56 +54,27 @@ struct Block {
 
 // The `wants` line and the lines below it: what it says, where the first want line starts and how many there are.
 #[derive(Clone, Copy)]
-enum BelowRead {
-    Good {
-        said: u64,
-        want_at: usize,
-        wants: u64,
-    },
-    Bad(u64),
+struct Below {
+    said: u64,
+    at: usize,
+    wants: u64,
 }
 
-fn read_top(sheet: &[u8]) -> TopRead
+fn read_top(sheet: &[u8]) -> Result<Top, BadLine>
     ensures { TopFound sheet.now result }
 {
-    let NameLine::Name {
-        end: _,
-        next: head_at,
-    } = tape_line(sheet)
-    else {
-        return TopRead::Bad(1);
-    };
-    let NumberLine::Value {
-        number: _,
-        next: turn_at,
-    } = number_line(sheet, head_at, b"head=")
-    else {
-        return TopRead::Bad(2);
-    };
-    let NumberLine::Value {
-        number: turn,
-        next: rule_at,
-    } = turn_line(sheet, turn_at)
-    else {
-        return TopRead::Bad(3);
-    };
-    let RuleLine::Value {
-        sweep,
-        next: files_at,
-    } = rule_line(sheet, rule_at)
-    else {
-        return TopRead::Bad(4);
-    };
-    let NumberLine::Value { number: said, next } = number_line(sheet, files_at, b"files=") else {
-        return TopRead::Bad(5);
-    };
-    TopRead::Good(Top {
-        third: turn_at,
-        turn,
-        empty: rule_at - turn_at == 6,
-        sweep,
-        said,
-        next,
+    let name = tape_line(sheet).ok_or(BadLine { line: 1 })?;
+    let head = number_line(sheet, name.next, b"head=").ok_or(BadLine { line: 2 })?;
+    let turn = turn_line(sheet, head.next).ok_or(BadLine { line: 3 })?;
+    let rule = rule_line(sheet, turn.next).ok_or(BadLine { line: 4 })?;
+    let files = number_line(sheet, rule.next, b"files=").ok_or(BadLine { line: 5 })?;
+    Ok(Top {
+        third: head.next,
+        turn: turn.number,
+        empty: turn.next - head.next == 6,
+        sweep: rule.sweep,
+        said: files.number,
+        next: files.next,
     })
 }
 
@@ -119,16 +84,16 @@ fn file_lines(sheet: &[u8], at: usize) -> Block
     ensures { BlockFound (is_triple_line file_key) most_sheet_files sheet.now at result }
 {
     match triple_lines(sheet, at, b"file=", MOST_SHEET_FILES) {
-        Lines::End(next) => Block {
+        Ok(next) => Block {
             count: MOST_SHEET_FILES,
             next,
         },
-        Lines::Bad(line) => match triple_lines(sheet, at, b"file=", line - 1) {
-            Lines::End(next) => Block {
-                count: line - 1,
+        Err(bad) => match triple_lines(sheet, at, b"file=", bad.line - 1) {
+            Ok(next) => Block {
+                count: bad.line - 1,
                 next,
             },
-            Lines::Bad(_) => Block { count: 0, next: at },
+            Err(_) => Block { count: 0, next: at },
         },
     }
 }
@@ -139,40 +104,36 @@ fn want_lines(sheet: &[u8], at: usize) -> Block
     ensures { BlockFound (is_pair_line want_key) longest_sheet sheet.now at result }
 {
     match pair_lines(sheet, at, b"want=", LONGEST_SHEET as u64) {
-        Lines::End(next) => Block {
+        Ok(next) => Block {
             count: LONGEST_SHEET as u64,
             next,
         },
-        Lines::Bad(line) => match pair_lines(sheet, at, b"want=", line - 1) {
-            Lines::End(next) => Block {
-                count: line - 1,
+        Err(bad) => match pair_lines(sheet, at, b"want=", bad.line - 1) {
+            Ok(next) => Block {
+                count: bad.line - 1,
                 next,
             },
-            Lines::Bad(_) => Block { count: 0, next: at },
+            Err(_) => Block { count: 0, next: at },
         },
     }
 }
 
-fn read_below(sheet: &[u8], at: usize, files: u64) -> BelowRead
+fn read_below(sheet: &[u8], at: usize, files: u64) -> Result<Below, BadLine>
     requires { WantsAt sheet.now at files }
     ensures { BelowFound sheet.now result }
 {
-    let NumberLine::Value {
-        number: said,
-        next: want_at,
-    } = number_line(sheet, at, b"wants=")
-    else {
-        return BelowRead::Bad(files + 6);
-    };
-    let wants = want_lines(sheet, want_at);
+    let said = number_line(sheet, at, b"wants=").ok_or(BadLine { line: files + 6 })?;
+    let wants = want_lines(sheet, said.next);
     if wants.next < sheet.len() {
-        return BelowRead::Bad(files + wants.count + 7);
+        return Err(BadLine {
+            line: files + wants.count + 7,
+        });
     }
-    BelowRead::Good {
-        said,
-        want_at,
+    Ok(Below {
+        said: said.number,
+        at: said.next,
         wants: wants.count,
-    }
+    })
 }
 
 fn refused_parts(verdict: Verdict) -> Parts
@@ -194,60 +155,64 @@ fn refused_parts(verdict: Verdict) -> Parts
     }
 }
 
-fn read_parts(sheet: &[u8]) -> Parts
+// All lines of a sheet.
+fn read_lines(sheet: &[u8]) -> Result<Parts, BadLine>
+    ensures { LinesFound sheet.now result }
+{
+    let top = read_top(sheet)?;
+    let files = file_lines(sheet, top.next);
+    let below = read_below(sheet, files.next, files.count)?;
+    Ok(Parts {
+        verdict: Verdict::accepted(),
+        third: top.third,
+        turn: top.turn,
+        empty: top.empty,
+        sweep: top.sweep,
+        listed: top.said,
+        table: top.next,
+        files: files.count,
+        tail: files.next,
+        asked: below.said,
+        body: below.at,
+        wants: below.wants,
+    })
+}
+
+// 12 and 11: the sheet's parts, or what refuses it.
+// Stays: as judge_sheet in sheet_reader with other parts; both are the two checks and nothing else.
+fn read_parts(sheet: &[u8]) -> Result<Parts, Verdict>
     ensures { PartsFound sheet.now result }
 {
-    let long = refuse_if(LONGEST_SHEET < sheet.len(), Refusal::LongSheet);
-    if refused(long) {
-        return refused_parts(long);
-    }
-    match read_top(sheet) {
-        TopRead::Bad(line) => refused_parts(refuse_at(line, Refusal::BadLine)),
-        TopRead::Good(top) => {
-            let files = file_lines(sheet, top.next);
-            match read_below(sheet, files.next, files.count) {
-                BelowRead::Bad(line) => refused_parts(refuse_at(line, Refusal::BadLine)),
-                BelowRead::Good {
-                    said,
-                    want_at,
-                    wants,
-                } => Parts {
-                    verdict: long,
-                    third: top.third,
-                    turn: top.turn,
-                    empty: top.empty,
-                    sweep: top.sweep,
-                    listed: top.said,
-                    table: top.next,
-                    files: files.count,
-                    tail: files.next,
-                    asked: said,
-                    body: want_at,
-                    wants,
-                },
-            }
-        }
+    Refusal::LongSheet.when(LONGEST_SHEET < sheet.len())?;
+    match read_lines(sheet) {
+        Ok(parts) => Ok(parts),
+        Err(bad) => Err(Verdict {
+            refusal: Refusal::BadLine,
+            place: bad.line,
+        }),
     }
 }
 
-// 8, unless what was judged before refuses: a row shorter than the want lines.
-fn judge_rows(parts: Parts, wanted: usize, counts: usize) -> Parts
-    ensures { result ≡ rows_judged parts wanted counts }
+// Whether one of two rows of these lengths is shorter than the want lines.
+fn is_short(wants: u64, wanted: usize, counts: usize) -> bool
+    ensures { result ≡ ltb wanted wants || ltb counts wants }
 {
-    if wanted < parts.wants as usize {
-        return refused_parts(refuse_if(true, Refusal::ShortRow));
-    }
-    if counts < parts.wants as usize {
-        return refused_parts(refuse_if(true, Refusal::ShortRow));
-    }
-    parts
+    (wanted as u64) < wants || (counts as u64) < wants
 }
 
-// The parts of a sheet, and its want lines in the first entries of two rows.
+// The parts of a sheet, and its want lines in the first entries of two rows: 12, 11 and 8.
 pub fn read_loose(sheet: &[u8], wanted: &mut [u64], counts: &mut [u64]) -> Parts
     ensures { LooseRead sheet.now wanted.old counts.old result wanted.new counts.new }
 {
-    let parts = judge_rows(read_parts(sheet), wanted.len(), counts.len());
-    fill_pairs(sheet, parts.body, b"want=", parts.wants, wanted, counts);
-    parts
+    match read_parts(sheet) {
+        Err(refusal) => refused_parts(refusal),
+        Ok(parts) => {
+            let short = is_short(parts.wants, wanted.len(), counts.len());
+            if let Err(refusal) = Refusal::ShortRow.when(short) {
+                return refused_parts(refusal);
+            }
+            fill_pairs(sheet, parts.body, b"want=", parts.wants, wanted, counts);
+            parts
+        }
+    }
 }

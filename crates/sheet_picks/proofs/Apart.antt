@@ -1,6 +1,6 @@
 -- Entries are disjoint, every wanted file lies in one of them, and their reads are the lines.
-use Prim.Native.Nat.{ℕ, zero, suc, ◌+◌, ◌-◌, ◌≤◌, ◌<◌, min}
-use mathlib.Core.Path.{◌≡◌, refl, ap, sym, ◌∙◌}
+use Prim.Native.Nat.{ℕ, zero, suc, ◌+◌, ◌-◌, ◌≤◌, ◌<◌}
+use mathlib.Core.Path.{◌≡◌, refl, sym, ◌∙◌}
 use mathlib.Core.Bool.{Bool, true, false, cond, ◌&&◌}
 use mathlib.Core.List.{List, [], ◌∷◌}
 use native.Mathlib.Omega.{arith}
@@ -9,10 +9,10 @@ use lib.ListN.{length, get_or}
 use lib.Dec.{leb, ltb}
 use borrow.Author.Tests.{lt-ltb, le-ltb, le-leb, lt-leb}
 use Rattle.runs.specs.Run.{last_place, total}
-use Rattle.tape_entries.specs.declared.Next.{Next}
+use Rattle.std.specs.Prelude.{None}
 use Rattle.tape_entries.specs.Entries.{both_rows, EntryFrom, NextEntry, LiesAcross, reads_of_entry}
-use Rattle.sheet_picks.specs.Entries.{last_or, EntriesFrom, EntriesOf, most_entries, entry_reads}
-use Rattle.sheet_picks.specs.Promises.{Wanted, LiesIn, EntriesAreApart, FilesLieInEntries, ReadsAddUp}
+use Rattle.sheet_picks.specs.Entries.{last_or, EntriesFrom, entry_reads}
+use Rattle.sheet_picks.specs.Promises.{LiesIn, EntriesAreApart, FilesLieInEntries, ReadsAddUp}
 use Rattle.sheet_picks.proofs.InTurn.{never_none}
 
 module _ (starts ends : List ℕ) where
@@ -33,7 +33,7 @@ module _ (starts ends : List ℕ) where
   apart from (f ∷ firsts) (m ∷ lasts) e (suc i) (suc j) h l = apart m firsts lasts e.1 i j (omega arith) (omega arith)
 
   -- A file from a place on lies in one of the entries from there.
-  lies : (from : ℕ) (firsts lasts : List ℕ) → EntriesFrom starts ends from firsts lasts → NextEntry starts ends (last_or from lasts) Next.Nothing → (i : ℕ) → i < both_rows starts ends
+  lies : (from : ℕ) (firsts lasts : List ℕ) → EntriesFrom starts ends from firsts lasts → NextEntry starts ends (last_or from lasts) None → (i : ℕ) → i < both_rows starts ends
       → from ≤ get_or starts i 0 → get_or starts i 0 < last_place → LiesIn firsts lasts (get_or starts i 0) (get_or ends i 0)
   unfolding EntriesFrom last_or
   lies from [] [] e n i l h near = absurd (omega (arith, n i l h))
@@ -122,7 +122,7 @@ module _ (starts ends : List ℕ) (near : (i : ℕ) → i < length starts → ge
       across q = omega (arith, q.behind, near q.which (omega (arith, q.listed)))
 
   module _ (even : length starts ≡ length ends) where
-    add_up : (from : ℕ) (firsts lasts : List ℕ) → EntriesFrom starts ends from firsts lasts → NextEntry starts ends (last_or from lasts) Next.Nothing
+    add_up : (from : ℕ) (firsts lasts : List ℕ) → EntriesFrom starts ends from firsts lasts → NextEntry starts ends (last_or from lasts) None
         → total (entry_reads starts firsts lasts) ≡ reads_of_entry from last_place starts
     unfolding EntriesFrom last_or entry_reads
     add_up from [] [] e n = sym (reads_none from last_place starts (λ i l h. n i (omega arith) h))

@@ -1,33 +1,34 @@
 -- The run of the entries is one that 1 to 5 accept, its sheet reads back as that run whatever 6 and 7 say of it, and two answers that fit are equal.
-use Prim.Native.Nat.{ℕ, zero, suc, ◌+◌, ◌-◌, ◌^◌, ◌≤◌, ◌<◌}
+use Prim.Native.Nat.{ℕ, zero, suc, ◌-◌, ◌^◌, ◌≤◌, ◌<◌}
 use mathlib.Core.Path.{◌≡◌, refl, ap, sym, ◌∙◌}
-use mathlib.Core.Bool.{Bool, true, false, cond, not, ◌||◌, ◌&&◌}
-use mathlib.Core.List.{List, [], ◌∷◌, ◌++◌}
+use mathlib.Core.Bool.{Bool, true, false, ◌||◌}
+use mathlib.Core.List.{List, [], ◌∷◌}
 use native.Mathlib.Omega.{arith}
 use native.Mathlib.Decide.{dec_lt}
 use lib.ListN.{length, get_or, length-replicate, get_or-replicate}
-use lib.Dec.{eqb, ltb, leb}
+use lib.Dec.{ltb, leb}
 use borrow.Author.Tests.{eq-eqb, ne_eqb, le-ltb, lt-leb}
-use Rattle.refusals.specs.declared.Refusal.TheVariants.{FileRows, BadFile, WantRows, BadWant, TooManyReads, TurnPrice, HeadPlace}
-use Rattle.refusals.specs.Refusals.{accepted, is_refusal, first_of, first_where, refuse_if, refuse_at}
-use Rattle.runs.specs.Run.{Run, Stop, stops_of, last_place, highest_turn, most_reads, most_files, most_wants, total, end_at}
-use Rattle.runs.specs.Alone.{zeros, alone_of, lone_stops, place_checks, judge_alone}
-use Rattle.runs.specs.Judging.{right_end, end_before, bad_place, bad_number, bad_file, number_before, bad_want, table_checks, wants_checks, head_checks, judge_of}
+use Rattle.std.specs.Prelude.{Result}
+use Rattle.refusals.specs.declared.Refusal.TheVariants.{TurnPrice, HeadPlace}
+use Rattle.refusals.specs.declared.Verdict.{Verdict}
+use Rattle.refusals.specs.Refusals.{accepted, is_refusal, first_of, refuse_if}
+use Rattle.runs.specs.Run.{Stop, stops_of, last_place, highest_turn, most_reads, most_files, most_wants, total, end_at}
+use Rattle.runs.specs.Alone.{zeros, lone_stops, place_checks, judge_alone}
+use Rattle.runs.specs.Judging.{right_end, end_before, bad_place, bad_file, number_before, bad_want, table_checks, wants_checks, head_checks, judge_of}
 use Rattle.runs.specs.Rows.{stop_at}
 use Rattle.runs.proofs.Search.{first_all}
 use Rattle.runs.proofs.Alone.{alone_judged, plain_length, plain_at}
 use Rattle.text_lines.specs.Lines.{each_of}
 use Rattle.text_lines.proofs.Filling.{length_each}
-use Rattle.sheet_writer.specs.Writing.{sheet_text}
 use Rattle.sheet_writer.proofs.RoundTrip.{SmallRun, small_run, small_trip}
-use Rattle.tape_entries.specs.Entries.{both_rows, EntryFrom, reads_of_entry}
+use Rattle.tape_entries.specs.Entries.{both_rows, EntryFrom}
 use Rattle.sheet_picks.specs.declared.Picks.{Picks}
-use Rattle.sheet_picks.specs.Entries.{last_or, EntriesFrom, EntriesOf, most_entries, entry_lengths, entry_reads}
+use Rattle.sheet_picks.specs.Entries.{last_or, EntriesFrom, entry_lengths, entry_reads}
 use Rattle.sheet_picks.specs.Sheets.{given_or, picked_run, picked_sheet}
 use Rattle.sheet_picks.specs.Names.{names_text}
-use Rattle.sheet_picks.specs.Writing.{picks_verdict, HandedFor, PicksHanded, PicksWritten}
+use Rattle.sheet_picks.specs.Writing.{picks_verdict, HandedFor, PicksHanded}
 use Rattle.sheet_picks.specs.Private.{EntryRows}
-use Rattle.sheet_picks.specs.Promises.{PicksAreOne, Wanted, OnlyHeadOrPrice, nothing, turn_price, head_place, PickedRunsFit, UsualHeadFits, ReadAgain, SheetsReadBack}
+use Rattle.sheet_picks.specs.Promises.{PicksAreOne, Wanted, OnlyHeadOrPrice, nothing, turn_price, head_place, PickedRunsFit, UsualHeadFits, SheetsReadBack}
 use Rattle.sheet_picks.proofs.InTurn.{in_turn_rows, entries_are_one}
 use Rattle.sheet_picks.proofs.Apart.{entries_are_apart, entry_near, reads_add_up, reads_some}
 use Rattle.sheet_picks.proofs.Stands.{each_at}
@@ -213,11 +214,11 @@ sheets_read_back name starts ends firsts lasts head turn named p h t =
     record { read = r.accepts; ruled = r.ruled; run_is = r.same_run; name_is = r.same_name }
 
 -- Two answers.
-handed_one : {v : Rattle.refusals.specs.declared.Verdict.Verdict} {sheet named out names : List ℕ} {r s : Picks} {out' names' out'' names'' : List ℕ}
+handed_one : {v : Verdict} {sheet named out names : List ℕ} {r s : Result Picks Verdict} {out' names' out'' names'' : List ℕ}
     → PicksHanded v sheet named out names r out' names' → PicksHanded v sheet named out names s out'' names'' → (r ≡ s) × (out' ≡ out'') × (names' ≡ names'')
 handed_one p q = (p.answer ∙ sym q.answer, p.sheet_left ∙ sym q.sheet_left, p.names_left ∙ sym q.names_left)
 
-module _ (name list starts head turn out names : List ℕ) (s : Picks) (out' names' : List ℕ) where
+module _ (name list starts head turn out names : List ℕ) (s : Result Picks Verdict) (out' names' : List ℕ) where
   abbrev HandedAt : List ℕ → List ℕ → Type 0
   HandedAt firsts lasts = HandedFor (picks_verdict name list (length firsts)) (picked_sheet name starts firsts lasts head turn) (names_text list starts firsts lasts) out names s out' names'
 

@@ -1,19 +1,19 @@
 -- Texts measured against a row and laid on it, one behind the other; the names line by line and entry by entry.
-use Prim.Native.Nat.{ℕ, zero, suc, ◌+◌, ◌-◌, ◌*◌, ◌≤◌, ◌<◌}
+use Prim.Native.Nat.{ℕ, suc, ◌+◌, ◌-◌, ◌≤◌, ◌<◌}
 use mathlib.Core.Path.{◌≡◌, refl, ap, sym, ◌∙◌, subst}
-use mathlib.Core.Bool.{Bool, true, false, cond, not, ◌&&◌, true≢false, false≢true}
+use mathlib.Core.Bool.{Bool, true, false, not, true≢false, false≢true}
 use mathlib.Core.List.{List, [], ◌∷◌, ◌++◌, append_assoc, append-nil}
 use native.Mathlib.Omega.{arith}
 use native.Mathlib.Numerals.{add-one}
 use native.Mathlib.Decide.{dec_lt}
-use lib.ListN.{length, get_or, take, drop, length-append, length-drop, drop_of_length-le}
-use lib.Seq.{length-take-le, drop-cons}
+use lib.ListN.{length, get_or, take, drop, length-append, drop_of_length-le}
+use lib.Seq.{drop-cons}
 use Rattle.text_bytes.specs.Text.{bytes, comma, line_feed}
 use Rattle.text_pages.specs.Printing.{line, pair_text, Wrote, Put}
 use Rattle.text_pages.proofs.Pages.{wrote_long, wrote_within, wrote_on, wrote_both}
 use Rattle.text_paths.specs.Paths.{line_count, path_after}
 use Rattle.sheet_picks.specs.Names.{name_line, same_path, is_first_line, lines_where, texts_of, lies_in_entry, name_of_line, names_of_entry, names_onward, names_text}
-use Rattle.sheet_picks.specs.Private.{PathStands, PathRows, EntryRows, first_reads, NextAt, name_head, Laid}
+use Rattle.sheet_picks.specs.Private.{PathStands, EntryRows, first_reads, NextAt, name_head, Laid}
 use Rattle.sheet_picks.proofs.Lines.{reads_first, reads_later}
 
 -- Nothing laid.

@@ -1,21 +1,19 @@
 -- Lines of one path: where each path stands, the first of them, and how many there are.
 use Prim.Native.Nat.{ℕ, zero, suc, ◌+◌, ◌-◌, ◌≤◌, ◌<◌}
-use mathlib.Core.Path.{◌≡◌, refl, ap, sym, ◌∙◌}
-use mathlib.Core.Bool.{Bool, true, false, cond, ◌&&◌, true≢false}
+use mathlib.Core.Path.{◌≡◌, refl, ◌∙◌}
+use mathlib.Core.Bool.{Bool, true, false, cond}
 use mathlib.Core.Logic.{⊎_elim}
 use mathlib.Core.List.{List, [], ◌∷◌}
 use native.Mathlib.Omega.{arith}
 use native.Mathlib.Numerals.{add-one}
-use lib.ListN.{length, get_or, take, drop, get_or-eq_default}
-use lib.Dec.{eqb, ltb, leb}
-use borrow.Author.Tests.{eq-eqb, ne_eqb, lt-ltb, ltb-true, lt-leb, le-leb}
-use Rattle.refusals.specs.Refusals.{first_where, one_more}
+use lib.ListN.{length, get_or, take, drop}
+use borrow.Author.Tests.{eq-eqb, ne_eqb}
+use Rattle.refusals.specs.Refusals.{first_where}
 use Rattle.runs.proofs.Search.{below_or_here, first_here, first_all}
 use Rattle.text_bytes.specs.Text.{is_text, starts_with}
-use Rattle.text_bytes.proofs.Bytes.{and_true_both}
 use Rattle.text_paths.specs.Paths.{line_count, path_after}
-use Rattle.sheet_picks.specs.Names.{same_path, is_first_line, lines_where, lies_in_entry}
-use Rattle.sheet_picks.specs.Private.{PathStands, PathRows, one_if, first_reads}
+use Rattle.sheet_picks.specs.Names.{same_path, is_first_line, lines_where}
+use Rattle.sheet_picks.specs.Private.{PathRows, first_reads}
 
 -- Two parts of a list are the paths of two lines.
 pub same_stands : (list froms tos : List ℕ) (rows : PathRows list froms tos) (i h : ℕ) (li : i < line_count list) (lh : h < line_count list) (r : Bool)
@@ -42,32 +40,31 @@ unfolding lines_where
 seen_none list i = record { few = omega arith; small = omega arith; count = refl; none = λ g l m. absurd (omega arith) }
 
 module _ (list : List ℕ) (i reads h : ℕ) (p : ReadsSeen list i reads h) where
-  pub seen_more : h < line_count list → (t : Bool) → t ≡ same_path list i h → (t && ltb h i) ≡ false → (n : ℕ) → n ≡ one_if t reads → ReadsSeen list i n (h + 1)
+  pub seen_more : h < line_count list → same_path list i h ≡ true → i ≤ h → ReadsSeen list i (reads + 1) (h + 1)
   unfolding lines_where
-  seen_more l t told late n e =
+  seen_more l t late =
       record {
         few = omega arith;
-        small = small_more t e;
-        count = e ∙ rw (add-one, ← told, p.count);
-        none = λ g m b. ⊎_elim (λ s. rw s (here s b t told late)) (λ k. p.none g k b) (below_or_here h g (omega arith));
+        small = omega (arith, p.small);
+        count = rw (add-one h, add-one reads, t, p.count);
+        none = λ g m b. p.none g (omega arith) b;
       }
-    where
-      small_more : (t : Bool) → n ≡ one_if t reads → n ≤ h + 1
-      small_more true e = omega (arith, p.small)
-      small_more false e = omega (arith, p.small)
 
-      here : {g : ℕ} → g ≡ h → g < i → (t : Bool) → t ≡ same_path list i h → (t && ltb h i) ≡ false → same_path list i h ≡ false
-      here s b false told late = sym told
-      here s b true told late = absurd (true≢false (sym (lt-ltb h i (omega arith)) ∙ late))
+  pub seen_other : h < line_count list → same_path list i h ≡ false → ReadsSeen list i reads (h + 1)
+  unfolding lines_where
+  seen_other l t =
+      record {
+        few = omega arith;
+        small = omega (arith, p.small);
+        count = rw (add-one h, t, p.count);
+        none = λ g m b. ⊎_elim (λ s. rw s t) (λ k. p.none g k b) (below_or_here h g (omega arith));
+      }
 
   first_found : same_path list i h ≡ true → h < i → first_where (same_path list i) (suc i) ≡ h + 1
   first_found t l = first_here (same_path list i) h (suc i) (first_all (same_path list i) h (λ g m. p.none g m (omega arith))) t (omega arith)
 
-  pub seen_earlier : (t : Bool) → t ≡ same_path list i h → (t && ltb h i) ≡ true → 0 ≡ first_reads list i
-  seen_earlier t told e =
-      let both = and_true_both t (ltb h i) e in
-      let l : h < i = ltb-true h i both.1 in
-      rw (first_found (sym told ∙ both.0) l, ne_eqb (h + 1) (suc i) (λ s. omega arith))
+  pub seen_earlier : same_path list i h ≡ true → h < i → 0 ≡ first_reads list i
+  seen_earlier t l = rw (first_found t l, ne_eqb (h + 1) (suc i) (λ s. omega arith))
 
   is_first : i < h → is_first_line list i ≡ true
   is_first l =
@@ -106,13 +103,3 @@ module _ (list : List ℕ) (i : ℕ) (l : i < line_count list) where
       go : (t : Bool) → is_first_line list i ≡ t → is_first_line list i ≡ false
       go true h = let s : r ≡ lines_where (same_path list i) (line_count list) = e ∙ rw h in absurd (omega (arith, reads_some h))
       go false h = h
-
--- A start of a row, and whether it lies in an entry.
-pub start_out : (starts : List ℕ) (i : ℕ) → length starts ≤ i → 0 ≡ get_or starts i 0
-start_out starts i l = sym (get_or-eq_default starts 0 l)
-
-pub lies_before : (starts : List ℕ) (first last i : ℕ) → get_or starts i 0 < first → false ≡ lies_in_entry starts first last i
-lies_before starts first last i l = rw (lt-leb first (get_or starts i 0) l)
-
-pub lies_behind : (starts : List ℕ) (first last i : ℕ) → first ≤ get_or starts i 0 → ltb (get_or starts i 0) last ≡ lies_in_entry starts first last i
-lies_behind starts first last i l = rw (le-leb first (get_or starts i 0) l)

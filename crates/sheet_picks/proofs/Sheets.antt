@@ -1,10 +1,10 @@
 -- The sheet of the entries: a file and a want for each, and the lines put one behind the other.
 use Prim.Native.Nat.{ℕ, zero, suc, ◌+◌, ◌-◌, ◌*◌, ◌≤◌, ◌<◌}
-use mathlib.Core.Path.{◌≡◌, refl, ap, sym, ◌∙◌, subst}
+use mathlib.Core.Path.{◌≡◌, refl, ap, sym, ◌∙◌}
 use mathlib.Core.List.{List, [], ◌∷◌, ◌++◌}
 use native.Mathlib.Omega.{arith}
 use native.Mathlib.Numerals.{add-one}
-use lib.ListN.{length, get_or, drop, length-replicate, get_or-replicate, get_or-eq_default}
+use lib.ListN.{length, get_or, drop, length-replicate, get_or-replicate}
 use Rattle.runs.specs.Alone.{zeros}
 use Rattle.text_lines.specs.Lines.{each_of}
 use Rattle.text_lines.proofs.Filling.{length_each}
@@ -17,14 +17,6 @@ use Rattle.sheet_picks.specs.Entries.{last_or, entry_lengths, entry_reads}
 use Rattle.sheet_picks.specs.Sheets.{given_or, picked_run, picked_sheet}
 use Rattle.sheet_picks.specs.Private.{EntryRows, sheet_most}
 use Rattle.sheet_picks.proofs.Stands.{each_at}
-
--- A number that is given, or the one for none.
-pub given_none : (none : ℕ) (row : List ℕ) → length row ≡ 0 → none ≡ given_or none row
-given_none none row e = sym (get_or-eq_default row none (omega arith))
-
-pub given_some : (none : ℕ) (row : List ℕ) → (length row ≡ 0 → ⊥) → get_or row 0 0 ≡ given_or none row
-given_some none [] n = absurd (n refl)
-given_some none (x ∷ row) n = refl
 
 -- The last of a row, by its place.
 last_at_lem : (x : ℕ) (row : List ℕ) → get_or (x ∷ row) (length row) 0 ≡ last_or x row
@@ -41,6 +33,11 @@ pub last_some : (row : List ℕ) → (length row ≡ 0 → ⊥) → get_or row (
 unfolding last_or
 last_some [] n = absurd (n refl)
 last_some (x ∷ row) n = let e : suc (length row) - 1 ≡ length row = omega arith in rw e (last_at_lem x row)
+
+pub last_read : (row : List ℕ) → get_or row (length row - 1) 0 ≡ last_or 0 row
+unfolding last_or
+last_read [] = refl
+last_read (x ∷ row) = last_some (x ∷ row) (λ e. omega arith)
 
 -- Lengths and reads by their places.
 pub lengths_long : (firsts lasts : List ℕ) → length firsts ≡ length lasts → length firsts ≡ length (entry_lengths firsts lasts)

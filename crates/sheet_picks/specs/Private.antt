@@ -1,11 +1,9 @@
 -- What the private functions ask and leave. No public contract cites this file.
-use Rattle.std.specs.Prelude.{ℕ, suc, ◌+◌, ◌-◌, ◌≤◌, ◌<◌, ◌≡◌, Bool, true, false, cond, List, [], ◌∷◌, ◌++◌, length, get_or, take, drop}
+use Rattle.std.specs.Prelude.{ℕ, ◌+◌, ◌-◌, ◌≤◌, ◌<◌, ◌≡◌, Bool, true, false, cond, List, [], ◌∷◌, ◌++◌, length, get_or, take, drop}
 use Rattle.text_bytes.specs.Text.{bytes, comma}
 use Rattle.text_pages.specs.Printing.{pair_text, Wrote}
 use Rattle.text_paths.specs.Paths.{line_count, path_after}
-use Rattle.tape_entries.specs.declared.Next.{Next}
-use Rattle.tape_entries.specs.Entries.{NextEntry}
-use Rattle.sheet_picks.specs.Entries.{most_entries, last_or, EntriesFrom, EntriesOf}
+use Rattle.sheet_picks.specs.Entries.{EntriesOf}
 use Rattle.sheet_picks.specs.Names.{same_path, is_first_line, lines_where}
 
 -- Two rows that say where the path of each line of a list stands in it.
@@ -18,10 +16,6 @@ pub record PathRows (list froms tos : List ℕ) : Type 0 where
   pub left : line_count list ≤ length froms
   pub right : line_count list ≤ length tos
   pub stands : (i : ℕ) → i < line_count list → PathStands list (get_or froms i 0) (get_or tos i 0) i
-
--- One line more, where it is of a kind.
-abbrev pub one_if : Bool → ℕ → ℕ
-one_if same count = cond same (suc count) count
 
 -- How many lines ask for the path of line i; 0 where an earlier line does.
 abbrev pub first_reads : List ℕ → ℕ → ℕ

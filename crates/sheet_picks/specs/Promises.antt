@@ -1,7 +1,8 @@
 -- What is promised of entries, runs and sheets, beside the contract. Proved in proofs/InTurn, proofs/Apart and proofs/Fitting.
-use Rattle.std.specs.Prelude.{ℕ, ◌^◌, ◌≤◌, ◌<◌, ◌≡◌, true, List, [], length, get_or}
+use Rattle.std.specs.Prelude.{ℕ, Result, ◌^◌, ◌≤◌, ◌<◌, ◌≡◌, true, List, [], length, get_or}
 use Rattle.refusals.specs.declared.Refusal.{Refusal}
 use Rattle.refusals.specs.declared.Refusal.TheVariants.{Accepted, TurnPrice, HeadPlace}
+use Rattle.refusals.specs.declared.Verdict.{Verdict}
 use Rattle.refusals.specs.Refusals.{accepted}
 use Rattle.runs.specs.Run.{Run, last_place, most_reads, total}
 use Rattle.runs.specs.Judging.{judge_of}
@@ -18,7 +19,7 @@ abbrev pub EntriesAreOne : Type 0
 EntriesAreOne = (starts ends firsts lasts firsts' lasts' : List ℕ) → EntriesOf starts ends firsts lasts → EntriesOf starts ends firsts' lasts' → (firsts ≡ firsts') × (lasts ≡ lasts')
 
 abbrev pub PicksAreOne : Type 0
-PicksAreOne = (name list starts ends head turn out names : List ℕ) (r s : Picks) (out' names' out'' names'' : List ℕ)
+PicksAreOne = (name list starts ends head turn out names : List ℕ) (r s : Result Picks Verdict) (out' names' out'' names'' : List ℕ)
     → PicksWritten name list starts ends head turn out names r out' names' → PicksWritten name list starts ends head turn out names s out'' names'' → (r ≡ s) × (out' ≡ out'') × (names' ≡ names'')
 
 -- Wanted files that a run takes: each starts before it ends, and ends within the limit; their entries are all there, at most 64.

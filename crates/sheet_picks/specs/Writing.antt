@@ -1,6 +1,6 @@
 -- What the writer of picked sheets answers, for every input, and the two rows that it leaves.
-use Rattle.std.specs.Prelude.{ℕ, ◌≡◌, cond, not, ◌||◌, List, [], ◌∷◌, length, ltb}
-use Rattle.refusals.specs.declared.Refusal.TheVariants.{Accepted, WantRows, ShortRow, BadName}
+use Rattle.std.specs.Prelude.{ℕ, ◌≡◌, Result, Ok, Err, cond, not, ◌||◌, List, [], ◌∷◌, length, ltb}
+use Rattle.refusals.specs.declared.Refusal.TheVariants.{WantRows, ShortRow, BadName}
 use Rattle.refusals.specs.declared.Verdict.{Verdict}
 use Rattle.refusals.specs.Refusals.{is_refusal, refuse_if, first_of}
 use Rattle.text_bytes.specs.Text.{is_name}
@@ -19,21 +19,18 @@ picks_verdict name list entries = first_of (refuse_if (not (is_name name)) BadNa
 abbrev pub text_rows_verdict : List ℕ → List ℕ → List ℕ → List ℕ → Verdict
 text_rows_verdict sheet named out names = refuse_if (ltb (length out) (length sheet) || ltb (length names) (length named)) ShortRow
 
--- A refusal's answer: kind and place, and 0 bytes of either text.
-abbrev pub refused_picks : Verdict → Picks
-refused_picks v = record { refusal = v.refusal; place = v.place; bytes = 0; named = 0 }
-
--- The answer to a verdict and two texts, and the rows: each text, then the later bytes as they were; on a refusal the whole row as it was.
-pub record PicksHanded (v : Verdict) (sheet named out names : List ℕ) (r : Picks) (out' names' : List ℕ) : Type 0 where
-  pub answer : r ≡ cond (is_refusal v.refusal) (refused_picks v) (record { refusal = Accepted; place = 0; bytes = length sheet; named = length named })
+-- The answer to a verdict and two texts, and the rows: how many bytes each text has, each text, then the later bytes as they were; on a refusal the verdict
+-- alone, and the whole row as it was.
+pub record PicksHanded (v : Verdict) (sheet named out names : List ℕ) (r : Result Picks Verdict) (out' names' : List ℕ) : Type 0 where
+  pub answer : r ≡ cond (is_refusal v.refusal) (Err v) (Ok (record { bytes = length sheet; named = length named }))
   pub sheet_left : out' ≡ written_row v sheet out
   pub names_left : names' ≡ written_row v named names
 
-abbrev pub HandedFor : Verdict → List ℕ → List ℕ → List ℕ → List ℕ → Picks → List ℕ → List ℕ → Type 0
+abbrev pub HandedFor : Verdict → List ℕ → List ℕ → List ℕ → List ℕ → Result Picks Verdict → List ℕ → List ℕ → Type 0
 HandedFor v sheet named out names r out' names' = PicksHanded (first_of (v ∷ text_rows_verdict sheet named out names ∷ [])) sheet named out names r out' names'
 
 -- The writer: the entries of the wanted files, and the answer for them.
-pub record PicksWritten (name list starts ends head turn out names : List ℕ) (r : Picks) (out' names' : List ℕ) : Type 0 where
+pub record PicksWritten (name list starts ends head turn out names : List ℕ) (r : Result Picks Verdict) (out' names' : List ℕ) : Type 0 where
   pub firsts : List ℕ
   pub lasts : List ℕ
   pub entries : EntriesOf starts ends firsts lasts

@@ -7,66 +7,43 @@ mod names;
 mod paths;
 mod sheet;
 
-ghost use Rattle.std.specs.Prelude.{◌≡◌, not, ◌||◌, [], ◌∷◌, ◌≤◌, length, ltb};
+ghost use Rattle.std.specs.Prelude.{◌≡◌, ◌||◌, ◌≤◌, length, ltb};
 ghost use Rattle.refusals.specs.declared.Refusal.TheVariants.{ShortRow};
-ghost use Rattle.refusals.specs.Refusals.{refuse_if};
-ghost use Rattle.text_bytes.specs.Text.{is_name};
-ghost use Rattle.text_paths.specs.Paths.{line_count};
+ghost use Rattle.refusals.specs.Refusals.{checked, refuse_if};
 ghost use Rattle.sheet_picks.specs.Sheets.{picked_sheet};
 ghost use Rattle.sheet_picks.specs.Names.{names_text};
-ghost use Rattle.sheet_picks.specs.Writing.{picks_verdict, text_rows_verdict, refused_picks, PicksHanded, PicksWritten};
+ghost use Rattle.sheet_picks.specs.Writing.{picks_verdict, text_rows_verdict, PicksHanded, PicksWritten};
 ghost use Rattle.sheet_picks.specs.Private.{PathRows, EntryRows};
 
 use entries::fill_entries;
 use names::put_names;
-use refusals::{Refusal, Verdict, refuse_if, refused};
+use refusals::{Refusal, Verdict};
 use sheet::put_sheet;
 use text_pages::put;
 use text_paths::{count_lines, fill_paths, judge_list};
 
-// What the writer answers: the bytes of the sheet and those of the names; on a refusal both are 0.
+// How many bytes the sheet and the names have.
 #[derive(Clone, Copy)]
 pub struct Picks {
-    pub refusal: Refusal,
-    pub place: u64,
     pub bytes: u64,
     pub named: u64,
 }
 
-fn unpicked(verdict: Verdict) -> Picks
-    ensures { result ≡ refused_picks verdict }
-{
-    let refusal = verdict.refusal;
-    Picks {
-        refusal,
-        place: verdict.place,
-        bytes: 0,
-        named: 0,
-    }
-}
-
 // 13, 11, 5 and 3.
-fn judge(name: &[u8], list: &[u8], entries: usize) -> Verdict
-    ensures { result ≡ picks_verdict name.now list.now entries }
+#[tactic(auto, unfolding(crate::specs::Writing::picks_verdict))]
+fn judge(name: &[u8], list: &[u8], entries: usize) -> Result<(), Verdict>
+    ensures { result ≡ checked (picks_verdict name.now list.now entries) }
 {
-    if !text_bytes::is_name(name) {
-        return refuse_if(true, Refusal::BadName);
-    }
-    let paths = judge_list(list);
-    if refused(paths) {
-        return paths;
-    }
-    refuse_if(runs::MOST_WANTS < entries, Refusal::WantRows)
+    Refusal::BadName.when(!text_bytes::is_name(name))?;
+    judge_list(list)?;
+    Refusal::WantRows.when(runs::MOST_WANTS < entries)
 }
 
 // 8 for two texts of so many bytes.
-fn judge_rows(sheet: usize, named: usize, out: usize, names: usize) -> Verdict
-    ensures { result ≡ refuse_if (ltb out sheet || ltb names named) ShortRow }
+fn judge_rows(sheet: usize, named: usize, out: usize, names: usize) -> Result<(), Verdict>
+    ensures { result ≡ checked (refuse_if (ltb out sheet || ltb names named) ShortRow) }
 {
-    if out < sheet {
-        return refuse_if(true, Refusal::ShortRow);
-    }
-    refuse_if(names < named, Refusal::ShortRow)
+    Refusal::ShortRow.when(out < sheet || names < named)
 }
 
 // A long row comes from a function of its own: where it is made and lent in one function, the check counts its entries one by one.
@@ -87,7 +64,7 @@ fn hand_both(
     turn: &[u64],
     out: &mut [u8],
     names: &mut [u8],
-) -> Picks
+) -> Result<Picks, Verdict>
     requires name_len_bound { length name.now ≤ 16 }
     requires path_rows { PathRows list.now froms.now tos.now }
     requires entry_rows { EntryRows firsts.now lasts.now }
@@ -97,18 +74,13 @@ fn hand_both(
     let mut page = blank_page();
     let bytes = put_sheet(&mut page, name, starts, firsts, lasts, head, turn);
     let named = put_names(names, false, list, froms, tos, starts, firsts, lasts);
-    let verdict = judge_rows(bytes, named, out.len(), names.len());
-    if refused(verdict) {
-        return unpicked(verdict);
-    }
+    judge_rows(bytes, named, out.len(), names.len())?;
     put(out, 0, &page[..bytes]);
     put_names(names, true, list, froms, tos, starts, firsts, lasts);
-    Picks {
-        refusal: Refusal::Accepted,
-        place: 0,
+    Ok(Picks {
         bytes: bytes as u64,
         named: named as u64,
-    }
+    })
 }
 
 // The sheet of the files that the lines of a list ask for, whose starts and ends stand in two rows, a line each; and their names.
@@ -121,16 +93,13 @@ pub fn write_picks(
     turn: &[u64],
     out: &mut [u8],
     names: &mut [u8],
-) -> Picks
+) -> Result<Picks, Verdict>
     ensures { PicksWritten name.now list.now starts.now ends.now head.now turn.now out.old names.old result out.new names.new }
 {
     let mut firsts = [0u64; 65];
     let mut lasts = [0u64; 65];
     let entries = fill_entries(starts, ends, &mut firsts, &mut lasts);
-    let verdict = judge(name, list, entries);
-    if refused(verdict) {
-        return unpicked(verdict);
-    }
+    judge(name, list, entries)?;
     let mut froms = [0usize; 1024];
     let mut tos = [0usize; 1024];
     fill_paths(list, count_lines(list), &mut froms, &mut tos);

@@ -61,21 +61,14 @@ fn put_name(row: &mut [u8], at: usize, writing: bool, number: u64, reads: u64, p
 fn start_at(starts: &[u64], i: usize) -> u64
     ensures { result ≡ get_or starts.now i 0 }
 {
-    if starts.len() <= i {
-        return 0;
-    }
-    starts[i]
+    starts.get(i).copied().unwrap_or(0)
 }
 
 // Whether the file of a line starts in an entry.
 fn lies_in(entry: Entry, starts: &[u64], i: usize) -> bool
     ensures { result ≡ lies_in_entry starts.now entry.first entry.last i }
 {
-    let start = start_at(starts, i);
-    if start < entry.first {
-        return false;
-    }
-    start < entry.last
+    (entry.first..entry.last).contains(&start_at(starts, i))
 }
 
 // What the names of an entry say of a line.
@@ -131,12 +124,10 @@ fn put_entry(
 {
     let count = count_lines(list);
     let mut next = at;
-    let mut i: usize = 0;
-    while i < count {
+    for i in 0..count {
         next = put_line_name(
             row, next, writing, list, froms, tos, starts, entry, count, i,
         );
-        i += 1;
     }
     next
 }
@@ -157,15 +148,13 @@ pub(crate) fn put_names(
     ensures { Laid writing row.old 0 (names_text list.now starts.now firsts.now lasts.now) row.new result }
 {
     let mut next: usize = 0;
-    let mut k: usize = 0;
-    while k < firsts.len() {
+    for k in 0..firsts.len() {
         let entry = Entry {
             number: k as u64 + 1,
             first: firsts[k],
             last: lasts[k],
         };
         next = put_entry(row, next, writing, list, froms, tos, starts, entry);
-        k += 1;
     }
     next
 }

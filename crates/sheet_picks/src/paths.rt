@@ -2,7 +2,7 @@
 ghost use Rattle.std.specs.Prelude.{◌≡◌, ◌<◌};
 ghost use Rattle.text_paths.specs.Paths.{line_count};
 ghost use Rattle.sheet_picks.specs.Names.{same_path};
-ghost use Rattle.sheet_picks.specs.Private.{PathRows, one_if, first_reads};
+ghost use Rattle.sheet_picks.specs.Private.{PathRows, first_reads};
 
 fn same_path(list: &[u8], froms: &[usize], tos: &[usize], i: usize, h: usize) -> bool
     requires path_rows { PathRows list.now froms.now tos.now }
@@ -15,16 +15,6 @@ fn same_path(list: &[u8], froms: &[usize], tos: &[usize], i: usize, h: usize) ->
     let other = froms[h];
     let over = tos[h];
     text_bytes::same(&list[other..over], &list[from..end])
-}
-
-fn one_if(same: bool, count: usize) -> usize
-    requires { count < 18446744073709551615 }
-    ensures { result ≡ one_if same count }
-{
-    if same {
-        return count + 1;
-    }
-    count
 }
 
 // How many lines ask for the path of a line; 0 where an earlier line does.
@@ -41,14 +31,13 @@ pub(crate) fn first_reads(
     ensures { result ≡ first_reads list.now i }
 {
     let mut reads: usize = 0;
-    let mut h: usize = 0;
-    while h < count {
-        let same = same_path(list, froms, tos, i, h);
-        if same & (h < i) {
-            return 0;
+    for h in 0..count {
+        if same_path(list, froms, tos, i, h) {
+            if h < i {
+                return 0;
+            }
+            reads += 1;
         }
-        reads = one_if(same, reads);
-        h += 1;
     }
     reads
 }

@@ -16,25 +16,23 @@ use text_pages::{put_line, put_number_line, put_pair_line, put_triple_line};
 const USUAL_TURN: u64 = 12000;
 
 // The number that is given in a row of one, or the one for none.
+// Stays: a caller in C hands head and turn in so, and `picked_sheet` reads them so; they are no Options.
 fn given_or(none: u64, row: &[u64]) -> u64
     ensures { result ≡ given_or none row.now }
 {
-    if row.len() == 0 {
-        return none;
-    }
-    row[0]
+    row.first().copied().unwrap_or(none)
 }
 
 // The end of the last entry; 0 where there is none.
+// Stays: `picked_sheet` puts the head there, and at 0 where there is no entry, so that this is a place and no Option.
 fn last_end(lasts: &[u64]) -> u64
     ensures { result ≡ last_or 0 lasts.now }
 {
-    if lasts.len() == 0 {
-        return 0;
-    }
-    lasts[lasts.len() - 1]
+    lasts.last().copied().unwrap_or(0)
 }
 
+// The first five lines, the number of files the last of them.
+// Stays: as in sheet_writer, where it asks for room and a short name; a public function answers every input, and a contract of both cases would be longer than this.
 fn put_top(page: &mut [u8], name: &[u8], head: u64, turn: u64, files: u64) -> usize
     requires name_len_bound { length name.now ≤ 16 }
     requires in_bounds { 112 ≤ length page.old }
@@ -54,11 +52,8 @@ fn put_files(page: &mut [u8], at: usize, firsts: &[u64], lasts: &[u64]) -> usize
     ensures { Wrote page.old at (triple_lines file_key firsts.now (entry_lengths firsts.now lasts.now) (zeros (length firsts.now))) (length firsts.now * 68) page.new result }
 {
     let mut next = at;
-    let mut i: usize = 0;
-    while i < firsts.len() {
-        let first = firsts[i];
-        next = put_triple_line(page, next, b"file=", first, lasts[i] - first, 0);
-        i += 1;
+    for (first, last) in firsts.iter().zip(lasts) {
+        next = put_triple_line(page, next, b"file=", *first, *last - *first, 0);
     }
     next
 }
@@ -70,11 +65,9 @@ fn put_wants(page: &mut [u8], at: usize, starts: &[u64], firsts: &[u64], lasts: 
     ensures { Wrote page.old at (pair_lines want_key (each_of suc (length firsts.now)) (entry_reads starts.now firsts.now lasts.now)) (length firsts.now * 47) page.new result }
 {
     let mut next = at;
-    let mut i: usize = 0;
-    while i < firsts.len() {
+    for i in 0..firsts.len() {
         let reads = reads_in(firsts[i], lasts[i], starts);
         next = put_pair_line(page, next, b"want=", i as u64 + 1, reads as u64);
-        i += 1;
     }
     next
 }

@@ -3,35 +3,28 @@ use Prim.Native.Nat.{ℕ, ◌-◌, ◌≤◌}
 use mathlib.Core.Path.{◌≡◌, refl, ap, sym, ◌∙◌}
 use mathlib.Core.Bool.{Bool, true, false, cond, ◌||◌}
 use mathlib.Core.List.{List, [], ◌∷◌, ◌++◌}
-use native.Mathlib.Omega.{arith}
 use native.Mathlib.Nat.{zero-add}
 use lib.ListN.{length, take, drop}
 use lib.Dec.{ltb}
 use borrow.Author.Tests.{ltb-false}
-use Rattle.refusals.specs.declared.Refusal.TheVariants.{ShortRow, RetiredRule}
+use Rattle.std.specs.Prelude.{Result, Ok, Err}
+use Rattle.refusals.specs.declared.Refusal.TheVariants.{Accepted, ShortRow, RetiredRule}
 use Rattle.refusals.specs.declared.Verdict.{Verdict}
-use Rattle.refusals.specs.Refusals.{is_refusal, refuse_if, refuse_at, first_of, first_where}
-use Rattle.refusals.proofs.Verdicts.{all_accept, accepts_if}
+use Rattle.refusals.specs.Refusals.{is_refusal, checked, refuse_if, refuse_at, first_of}
+use Rattle.refusals.proofs.Verdicts.{refuses, all_accept, accepts_if}
+use Rattle.refusals.proofs.Checked.{passed, stopped, first_stops, first_passes_on, last_decides}
 use Rattle.runs.proofs.Search.{or_false_both}
 use Rattle.sheet_reader.specs.declared.Reading.{Reading}
-use Rattle.sheet_reader.specs.declared.reader.Judged.{Judged}
-use Rattle.text_lines.specs.Lines.{after_lines, is_pair_line, first_in, second_in, is_triple_line, middle_in, third_in, first_bad_of, each_of, filled_row}
+use Rattle.sheet_reader.specs.declared.reader.Top.{Top}
+use Rattle.sheet_reader.specs.declared.reader.Below.{Below}
+use Rattle.sheet_reader.specs.declared.reader.Parts.{Parts}
+use Rattle.text_lines.specs.Lines.{after_lines, first_in, middle_in, third_in, each_of, filled_row}
 use Rattle.sheet_reader.specs.Lines.{file_key, want_key}
-use Rattle.sheet_reader.specs.Sheet.{sheet_name}
-use Rattle.sheet_reader.specs.Reading.{rule_verdict, read_verdict, read_answer, read_row, RunRows, run_rows, SheetRead, read_name, read_from, place_on, short_pair_rows, short_triple_rows}
-use Rattle.sheet_reader.specs.Found.{NamePart}
-use Rattle.sheet_reader.specs.Private.{JudgedGood, JudgedFound, TriplesReady, ruled_of, files_verdict, lines_filled, reading_of}
+use Rattle.sheet_reader.specs.Sheet.{sheet_files, sheet_wants, sheet_name}
+use Rattle.sheet_reader.specs.Reading.{sheet_verdict, rule_verdict, read_verdict, refused_reading, read_row, RunRows, run_rows, SheetRead, read_name, read_from, place_on, short_pair_rows, short_triple_rows}
+use Rattle.sheet_reader.specs.Private.{SheetGood, run_verdict, RunGood, TriplesReady}
 use Rattle.text_lines.specs.Found.{PairsRead}
 use Rattle.text_lines.proofs.Filling.{length_each, PairsReady, pairs_read}
-
--- Two pairs of rows judged one after the other are judged together.
-both_judged : (w : Verdict) (a b : Bool) → first_of (first_of (w ∷ refuse_if a ShortRow ∷ []) ∷ refuse_if b ShortRow ∷ []) ≡ first_of (w ∷ refuse_if (a || b) ShortRow ∷ [])
-both_judged w a b = go (is_refusal w.refusal) refl a
-  where
-    go : (f : Bool) → is_refusal w.refusal ≡ f → (a : Bool) → first_of (first_of (w ∷ refuse_if a ShortRow ∷ []) ∷ refuse_if b ShortRow ∷ []) ≡ first_of (w ∷ refuse_if (a || b) ShortRow ∷ [])
-    go true e a = rw (e, e)
-    go false e true = rw e
-    go false e false = rw e
 
 -- Two checks, then the others, are all of them in turn.
 pub in_turn : (w x : Verdict) (others : List Verdict) → first_of (first_of (w ∷ x ∷ []) ∷ others) ≡ first_of (w ∷ x ∷ others)
@@ -42,163 +35,165 @@ in_turn w x others = go (is_refusal w.refusal) refl (is_refusal x.refusal) refl
     go false e true h = rw (e, h, h)
     go false e false h = rw (e, h)
 
--- Lines that are filled: all are as described and a row has room, or there are none.
-module _ (v : Verdict) (count n : ℕ) (n-is : n ≡ lines_filled v count) where
-  lines_ready : (test : List ℕ → Bool) (text : List ℕ) → (is_refusal v.refusal ≡ false → first_bad_of test count text ≡ 0) → first_bad_of test n text ≡ 0
-  unfolding first_bad_of first_where
-  lines_ready test text good = go (is_refusal v.refusal) refl
-    where
-      go : (f : Bool) → is_refusal v.refusal ≡ f → first_bad_of test n text ≡ 0
-      go true e = let none : n ≡ 0 = n-is ∙ rw e in rw none
-      go false e = let all : n ≡ count = n-is ∙ rw e in rw all (good e)
-
-  row_ready : (row : List ℕ) → (is_refusal v.refusal ≡ false → ltb (length row) count ≡ false) → n ≤ length row
-  row_ready row good = go (is_refusal v.refusal) refl
-    where
-      go : (f : Bool) → is_refusal v.refusal ≡ f → n ≤ length row
-      go true e = let none : n ≡ 0 = n-is ∙ rw e in omega arith
-      go false e = let all : n ≡ count = n-is ∙ rw e in rw all (ltb-false (length row) count (good e))
-
--- The row that filling leaves.
-row_read : (v : Verdict) (count n : ℕ) → n ≡ lines_filled v count → (value : ℕ → ℕ) (values row : List ℕ) → (is_refusal v.refusal ≡ false → values ≡ each_of value count)
-    → each_of value n ++ drop n row ≡ read_row v values row
-unfolding read_row each_of
-row_read v count n n-is value values row said = go (is_refusal v.refusal) refl
-  where
-    go : (f : Bool) → is_refusal v.refusal ≡ f → each_of value n ++ drop n row ≡ read_row v values row
-    go true e = let none : n ≡ 0 = n-is ∙ rw e in rw (e, none)
-    go false e = let all : n ≡ count = n-is ∙ rw e in rw (e, all, said e, length_each value count)
-
--- The rows of files are judged after the rule: k is the verdict with 19, u after starts and lengths, t after aggregates.
-pub files_judged : (judged : Judged) (starts lengths aggregates : ℕ) (k u t : Verdict) → k ≡ ruled_of judged
-    → u ≡ first_of (k ∷ refuse_if (ltb starts judged.top.files || ltb lengths judged.top.files) ShortRow ∷ [])
-    → t ≡ first_of (u ∷ refuse_if (ltb aggregates judged.top.files) ShortRow ∷ []) → t ≡ files_verdict judged starts lengths aggregates
-files_judged judged starts lengths aggregates k u t k-is u-is t-is =
-    let short = ltb starts judged.top.files || ltb lengths judged.top.files in
-    let many = ltb aggregates judged.top.files in
-    t-is ∙ ap (λ x. first_of (x ∷ refuse_if many ShortRow ∷ [])) u-is
-    ∙ both_judged k short many
-    ∙ ap (λ x. first_of (x ∷ refuse_if (short || many) ShortRow ∷ [])) k-is
-
--- t is the verdict after the files' rows, v after all; m and n are how many lines are filled.
-module _ (sheet : List ℕ) (judged : Judged) (found : JudgedFound sheet judged) (starts lengths aggregates numbers counts : List ℕ) (t v : Verdict)
-    (t-is : t ≡ files_verdict judged (length starts) (length lengths) (length aggregates))
-    (v-is : v ≡ first_of (t ∷ refuse_if (short_pair_rows judged.wants numbers counts) ShortRow ∷ [])) where
-  abbrev short-files : Bool
-  short-files = short_triple_rows judged.top.files starts lengths aggregates
-
-  abbrev short-wants : Bool
-  short-wants = short_pair_rows judged.wants numbers counts
-
+-- 19 and 8, said of the parts, are said of the sheet.
+module _ (sheet : List ℕ) (parts : Parts) (good : SheetGood sheet parts) (starts lengths aggregates numbers counts : ℕ) where
   abbrev retired : Verdict
-  retired = refuse_at (cond judged.top.sweep 4 0) RetiredRule
+  retired = refuse_at (cond parts.top.sweep 4 0) RetiredRule
 
-  read_verdict_here : v ≡ read_verdict sheet starts lengths aggregates numbers counts
-  unfolding read_verdict rule_verdict
-  read_verdict_here =
-      v-is ∙ ap (λ x. first_of (x ∷ refuse_if short-wants ShortRow ∷ [])) t-is
-      ∙ both_judged (ruled_of judged) short-files short-wants
-      ∙ in_turn judged.verdict retired (refuse_if (short-files || short-wants) ShortRow ∷ [])
-      ∙ go (is_refusal judged.verdict.refusal) refl
-    where
-      go : (f : Bool) → is_refusal judged.verdict.refusal ≡ f
-          → first_of (judged.verdict ∷ retired ∷ refuse_if (short-files || short-wants) ShortRow ∷ []) ≡ read_verdict sheet starts lengths aggregates numbers counts
-      go true e = rw (← found.verdict, e)
-      go false e = let p = found.out e in rw (← found.verdict, ← p.upper.sweep, ← p.upper.files, ← p.below.count)
+  abbrev short : Verdict
+  short =
+      refuse_if (((ltb starts parts.top.files || ltb lengths parts.top.files) || ltb aggregates parts.top.files) || (ltb numbers parts.below.wants || ltb counts parts.below.wants)) ShortRow
 
-  module _ (e : is_refusal v.refusal ≡ false) where
-    wants_pass : (is_refusal t.refusal ≡ false) × (short-wants ≡ false)
-    wants_pass =
-        let all = all_accept (t ∷ refuse_if short-wants ShortRow ∷ []) (rw (← v-is) e) in
-        (all.0, accepts_if short-wants ShortRow refl all.1.0)
+  retired_is : retired ≡ rule_verdict sheet
+  unfolding rule_verdict
+  retired_is = rw (← good.are.upper.sweep)
 
-    files_pass : (is_refusal (ruled_of judged).refusal ≡ false) × (short-files ≡ false)
-    files_pass =
-        let all = all_accept (ruled_of judged ∷ refuse_if short-files ShortRow ∷ []) (rw (← t-is) wants_pass.0) in
-        (all.0, accepts_if short-files ShortRow refl all.1.0)
+  abbrev rows_judged : Verdict
+  rows_judged =
+      refuse_if (((ltb starts (sheet_files sheet) || ltb lengths (sheet_files sheet)) || ltb aggregates (sheet_files sheet)) || (ltb numbers (sheet_wants sheet) || ltb counts (sheet_wants sheet))) ShortRow
 
-    parts : JudgedGood sheet judged
-    parts = found.out (all_accept (judged.verdict ∷ retired ∷ []) files_pass.0).0
+  pub sheet_retired : (v : Verdict) → Err v ≡ checked retired → Err v ≡ checked (run_verdict sheet starts lengths aggregates numbers counts)
+  sheet_retired v said =
+      first_passes_on (sheet_verdict sheet) (rule_verdict sheet ∷ rows_judged ∷ []) tt (Err v) good.accepted
+      (first_stops (rule_verdict sheet) (rows_judged ∷ []) v (said ∙ ap checked retired_is))
 
-    -- Each row has room for its lines.
-    wants_room_here : (ltb (length numbers) judged.wants ≡ false) × (ltb (length counts) judged.wants ≡ false)
-    wants_room_here = or_false_both (ltb (length numbers) judged.wants) (ltb (length counts) judged.wants) wants_pass.1
+  short_is : short ≡ rows_judged
+  short_is = rw (good.are.upper.files, good.are.below.count)
 
-    files_room_here : (short_pair_rows judged.top.files starts lengths ≡ false) × (ltb (length aggregates) judged.top.files ≡ false)
-    files_room_here = or_false_both (short_pair_rows judged.top.files starts lengths) (ltb (length aggregates) judged.top.files) files_pass.1
+  module _ (least : Ok tt ≡ checked retired) where
+    rows_decide : (r : Result Unit Verdict) → r ≡ checked short → r ≡ checked (run_verdict sheet starts lengths aggregates numbers counts)
+    rows_decide r said =
+        first_passes_on (sheet_verdict sheet) (rule_verdict sheet ∷ rows_judged ∷ []) tt r good.accepted
+        (first_passes_on (rule_verdict sheet) (rows_judged ∷ []) tt r (least ∙ ap checked retired_is) (last_decides rows_judged r (said ∙ ap checked short_is)))
 
-    pair_room : (ltb (length starts) judged.top.files ≡ false) × (ltb (length lengths) judged.top.files ≡ false)
-    pair_room = or_false_both (ltb (length starts) judged.top.files) (ltb (length lengths) judged.top.files) files_room_here.0
+    pub rows_short : (v : Verdict) → Err v ≡ checked short → Err v ≡ checked (run_verdict sheet starts lengths aggregates numbers counts)
+    rows_short v said = rows_decide (Err v) said
 
-  module _ (m : ℕ) (m-is : m ≡ lines_filled v judged.top.files) where
-    pub files_ready : TriplesReady file_key sheet judged.top.next m starts lengths aggregates
+    pub run_good : Ok tt ≡ checked short → RunGood sheet starts lengths aggregates numbers counts parts
+    run_good said = record { accepted = rows_decide (Ok tt) said; are = good.are }
+
+-- On a refusal the rows stay.
+module _ (sheet starts lengths aggregates numbers counts : List ℕ) where
+  abbrev said_of : Verdict
+  said_of = read_verdict sheet starts lengths aggregates numbers counts
+
+  abbrev run_of : Verdict
+  run_of = run_verdict sheet (length starts) (length lengths) (length aggregates) (length numbers) (length counts)
+
+  run_is : run_of ≡ said_of
+  unfolding read_verdict
+  run_is = refl
+
+  row_stays : (values row : List ℕ) → refuses said_of ≡ true → row ≡ read_row said_of values row
+  unfolding read_row
+  row_stays values row e = rw e
+
+  pub refused_read : (v : Verdict) → Err v ≡ checked run_of → (r : Reading) → r ≡ refused_reading v
+      → SheetRead sheet (run_rows starts lengths aggregates numbers counts) r (run_rows starts lengths aggregates numbers counts)
+  refused_read v said r r-is =
+      let s = stopped said_of v (said ∙ ap checked run_is) in
+      let e = s.so in
+      record {
+        answer = rw e (r-is ∙ ap refused_reading (sym s.is));
+        starts = row_stays _ starts e;
+        lengths = row_stays _ lengths e;
+        aggregates = row_stays _ aggregates e;
+        numbers = row_stays _ numbers e;
+        counts = row_stays _ counts e;
+      }
+
+  -- Accepted, each row has room for its lines, and is filled with them.
+  module _ (parts : Parts) (good : RunGood sheet (length starts) (length lengths) (length aggregates) (length numbers) (length counts) parts) where
+    abbrev top : Top
+    top = parts.top
+
+    abbrev below : Below
+    below = parts.below
+
+    passes_here : refuses said_of ≡ false
+    passes_here = passed said_of tt (good.accepted ∙ ap checked run_is)
+
+    abbrev short-files : Bool
+    short-files = short_triple_rows top.files starts lengths aggregates
+
+    abbrev short-wants : Bool
+    short-wants = short_pair_rows below.wants numbers counts
+
+    none_short : (short-files ≡ false) × (short-wants ≡ false)
+    unfolding read_verdict
+    none_short =
+        let all = all_accept (sheet_verdict sheet ∷ rule_verdict sheet ∷ refuse_if (short_triple_rows (sheet_files sheet) starts lengths aggregates || short_pair_rows (sheet_wants sheet) numbers counts) ShortRow ∷ []) passes_here in
+        or_false_both short-files short-wants (rw (good.are.upper.files, good.are.below.count) (accepts_if _ ShortRow refl all.1.1.0))
+
+    room : (row : List ℕ) (count : ℕ) → ltb (length row) count ≡ false → count ≤ length row
+    room row count e = ltb-false (length row) count e
+
+    pub files_ready : TriplesReady file_key sheet top.next top.files starts lengths aggregates
     files_ready =
+        let three = or_false_both (short_pair_rows top.files starts lengths) (ltb (length aggregates) top.files) none_short.0 in
+        let two = or_false_both (ltb (length starts) top.files) (ltb (length lengths) top.files) three.0 in
         record {
-          within = found.file_at;
-          none = lines_ready v judged.top.files m m-is (is_triple_line file_key) (drop judged.top.next sheet) (λ e. rw ((parts e).upper.files, (parts e).upper.rest) (parts e).below.filed);
-          room = row_ready v judged.top.files m m-is starts (λ e. (pair_room e).0);
-          space = row_ready v judged.top.files m m-is lengths (λ e. (pair_room e).1);
-          more = row_ready v judged.top.files m m-is aggregates (λ e. (files_room_here e).1);
+          within = good.are.upper.within;
+          none = rw (good.are.upper.files, good.are.upper.rest) good.are.below.filed;
+          room = room starts top.files two.0;
+          space = room lengths top.files two.1;
+          more = room aggregates top.files three.1;
         }
 
-    module _ (n : ℕ) (n-is : n ≡ lines_filled v judged.wants) where
-      wants_ready : PairsReady want_key sheet judged.at n numbers counts
-      wants_ready =
-          record {
-            none = lines_ready v judged.wants n n-is (is_pair_line want_key) (drop judged.at sheet) (λ e. rw ((parts e).below.count, (parts e).below.rest) (parts e).below.wanted);
-            room = row_ready v judged.wants n n-is numbers (λ e. (wants_room_here e).0);
-            space = row_ready v judged.wants n n-is counts (λ e. (wants_room_here e).1);
-          }
+    wants_ready : PairsReady want_key sheet below.at below.wants numbers counts
+    wants_ready =
+        let two = or_false_both (ltb (length numbers) below.wants) (ltb (length counts) below.wants) none_short.1 in
+        record {
+          none = rw (good.are.below.count, good.are.below.rest) good.are.below.wanted;
+          room = room numbers below.wants two.0;
+          space = room counts below.wants two.1;
+        }
 
-      answer_read : reading_of v judged.top judged.wants ≡ read_answer v sheet
-      unfolding read_answer
-      answer_read = go (is_refusal v.refusal) refl
-        where
-          go : (f : Bool) → is_refusal v.refusal ≡ f → reading_of v judged.top judged.wants ≡ read_answer v sheet
-          go true e = rw e
-          go false e = let p = parts e in rw (e, ← p.upper.head, ← p.upper.turn, ← p.upper.files, ← p.below.count)
+    row_read : (value : ℕ → ℕ) (count n : ℕ) → n ≡ count → (row : List ℕ) → each_of value n ++ drop n row ≡ read_row said_of (each_of value count) row
+    unfolding read_row each_of
+    row_read value count n same row = rw (passes_here, same, length_each value count)
 
-      abbrev file_lines_lem : List ℕ
-      file_lines_lem = drop judged.top.next sheet
+    abbrev file_lines_lem : List ℕ
+    file_lines_lem = drop top.next sheet
 
-      pub sheet_read : (r : Reading) (starts' lengths' aggregates' numbers' counts' : List ℕ) → r ≡ reading_of v judged.top judged.wants
-          → (starts' ≡ filled_row (first_in file_key) file_lines_lem m starts) × ((lengths' ≡ filled_row (middle_in file_key) file_lines_lem m lengths) × (aggregates' ≡ filled_row (third_in file_key) file_lines_lem m aggregates))
-          → PairsRead want_key sheet judged.at n numbers counts numbers' counts'
-          → SheetRead sheet (run_rows starts lengths aggregates numbers counts) r (run_rows starts' lengths' aggregates' numbers' counts')
-      unfolding read_answer
-      sheet_read r starts' lengths' aggregates' numbers' counts' r-is files filled =
-          let wants = pairs_read want_key sheet judged.at n numbers counts wants_ready numbers' counts' filled in
-          record {
-            answer = rw (← read_verdict_here) (r-is ∙ answer_read);
-            starts = rw (← read_verdict_here) (files.0 ∙ row_read v judged.top.files m m-is _ _ starts (λ e. rw ((parts e).upper.files, (parts e).upper.rest)));
-            lengths = rw (← read_verdict_here) (files.1.0 ∙ row_read v judged.top.files m m-is _ _ lengths (λ e. rw ((parts e).upper.files, (parts e).upper.rest)));
-            aggregates = rw (← read_verdict_here) (files.1.1 ∙ row_read v judged.top.files m m-is _ _ aggregates (λ e. rw ((parts e).upper.files, (parts e).upper.rest)));
-            numbers = rw (← read_verdict_here) (wants.0 ∙ row_read v judged.wants n n-is _ _ numbers (λ e. rw ((parts e).below.count, (parts e).below.rest)));
-            counts = rw (← read_verdict_here) (wants.1 ∙ row_read v judged.wants n n-is _ _ counts (λ e. rw ((parts e).below.count, (parts e).below.rest)));
-          }
+    pub sheet_read : (starts' lengths' aggregates' numbers' counts' : List ℕ)
+        → (starts' ≡ filled_row (first_in file_key) file_lines_lem top.files starts) → (lengths' ≡ filled_row (middle_in file_key) file_lines_lem top.files lengths)
+        → (aggregates' ≡ filled_row (third_in file_key) file_lines_lem top.files aggregates)
+        → PairsRead want_key sheet below.at below.wants numbers counts numbers' counts'
+        → SheetRead sheet (run_rows starts lengths aggregates numbers counts)
+        (record { refusal = Accepted; place = 0; head = top.head; turn = top.turn; files = top.files; wants = below.wants }) (run_rows starts' lengths' aggregates' numbers' counts')
+    sheet_read starts' lengths' aggregates' numbers' counts' s-is l-is a-is filled =
+        let wants = pairs_read want_key sheet below.at below.wants numbers counts wants_ready numbers' counts' filled in
+        let up = good.are.upper in
+        let down = good.are.below in
+        record {
+          answer = rw (passes_here, ← up.head, ← up.turn, ← up.files, ← down.count);
+          starts = s-is ∙ rw up.rest (row_read _ _ _ up.files starts);
+          lengths = l-is ∙ rw up.rest (row_read _ _ _ up.files lengths);
+          aggregates = a-is ∙ rw up.rest (row_read _ _ _ up.files aggregates);
+          numbers = wants.0 ∙ rw down.rest (row_read _ _ _ down.count numbers);
+          counts = wants.1 ∙ rw down.rest (row_read _ _ _ down.count counts);
+        }
 
--- The name's part, and where it starts; f says whether 12 or 11 applies.
-module _ (sheet : List ℕ) (judged : Judged) (found : JudgedFound sheet judged) (f : Bool) (f-is : f ≡ is_refusal judged.verdict.refusal) where
-  module _ (e : f ≡ false) where
-    pub name_part : NamePart sheet judged.top.end
-    name_part = (found.out (sym f-is ∙ e)).upper.name
-
-    pub name_read : take (judged.top.end - 5) (drop 5 sheet) ≡ read_name sheet
+-- The name's part, and where it starts.
+module _ (sheet : List ℕ) where
+  module _ (parts : Parts) (good : SheetGood sheet parts) where
+    pub name_read : take (parts.top.end - 5) (drop 5 sheet) ≡ read_name sheet
     unfolding read_name sheet_name after_lines
-    name_read = rw (← found.verdict, ← f-is, e) name_part.name
+    name_read = rw (passed _ _ good.accepted) good.are.upper.name.name
 
     pub name_from : (place : ℕ × ℕ) → place_on 5 place ≡ place_on (read_from sheet) place
     unfolding read_from
-    name_from place = rw (← found.verdict, ← f-is, e)
+    name_from place = rw (passed _ _ good.accepted)
 
-  module _ (e : f ≡ true) where
+  module _ (v : Verdict) (said : Err v ≡ checked (sheet_verdict sheet)) where
     pub no_name : [] ≡ read_name sheet
     unfolding read_name
-    no_name = rw (← found.verdict, ← f-is, e)
+    no_name = rw (stopped _ _ said).so
 
     pub no_name_from : (place : ℕ × ℕ) → place ≡ place_on (read_from sheet) place
     unfolding read_from
-    no_name_from place = rw (← found.verdict, ← f-is, e, zero-add)
+    no_name_from place = rw ((stopped _ _ said).so, zero-add)
 
 -- The contract determines the answer and every row.
 pub read_determined : (sheet : List ℕ) (rows : RunRows) (r s : Reading) (rows' rows'' : RunRows) → SheetRead sheet rows r rows' → SheetRead sheet rows s rows'' → (r ≡ s) × (rows' ≡ rows'')

@@ -2,11 +2,11 @@
 use Prim.Native.Nat.{ℕ, ◌+◌, ◌≤◌, ◌<◌}
 use mathlib.Core.Path.{◌≡◌, refl, ap, ◌∙◌}
 use mathlib.Core.List.{List}
-use lib.ListN.{length, drop, set}
+use lib.ListN.{drop, set}
 use Rattle.text_lines.specs.Found.{TripleAt}
 use Rattle.sheet_reader.specs.Private.{TriplesReady}
 use Rattle.text_lines.proofs.Passing.{LinesSeen, lines_none, line_seen}
-use Rattle.text_lines.proofs.Filling.{row_long, row_filled, row_more}
+use Rattle.text_lines.proofs.Filling.{row_filled, row_more}
 use Rattle.text_lines.specs.Lines.{line_of, first_in, is_triple_line, middle_in, third_in, each_of, filled_row}
 -- How long a row of values is, for those above.
 pub use Rattle.text_lines.proofs.Filling.{length_each}
@@ -24,15 +24,6 @@ module _ (key sheet : List ℕ) (at count : ℕ) (firsts₀ seconds₀ thirds₀
   filling_none₃ = record { seen = lines_none (is_triple_line key) sheet at count at ready.within refl; left = refl; middle = refl; right = refl }
 
   module _ (next i : ℕ) (firsts seconds thirds : List ℕ) (p : Filling₃ key sheet at count firsts₀ seconds₀ thirds₀ next i firsts seconds thirds) where
-    pub left_long₃ : length firsts ≡ length firsts₀
-    left_long₃ = row_long (first_in key) (drop at sheet) firsts₀ count ready.room i p.seen.few firsts p.left
-
-    pub middle_long₃ : length seconds ≡ length seconds₀
-    middle_long₃ = row_long (middle_in key) (drop at sheet) seconds₀ count ready.space i p.seen.few seconds p.middle
-
-    pub right_long₃ : length thirds ≡ length thirds₀
-    right_long₃ = row_long (third_in key) (drop at sheet) thirds₀ count ready.more i p.seen.few thirds p.right
-
     pub filled₃ : count ≤ i → (firsts ≡ filled_row (first_in key) (drop at sheet) count firsts₀) × ((seconds ≡ filled_row (middle_in key) (drop at sheet) count seconds₀) × (thirds ≡ filled_row (third_in key) (drop at sheet) count thirds₀))
     filled₃ l = (
       row_filled (first_in key) (drop at sheet) firsts₀ count ready.room i p.seen.few firsts p.left l,

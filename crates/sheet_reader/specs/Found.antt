@@ -1,5 +1,5 @@
 -- What the readers of the sheet's own lines find, by cases of their answers.
-use Rattle.std.specs.Prelude.{ℕ, ◌-◌, ◌≤◌, ◌≡◌, false, List, length, take, drop}
+use Rattle.std.specs.Prelude.{ℕ, ◌-◌, ◌≤◌, ◌≡◌, false, List, length, take, drop, Option, Some, None}
 use Rattle.sheet_reader.specs.declared.NameLine.{NameLine}
 use Rattle.sheet_reader.specs.declared.RuleLine.{RuleLine}
 use Rattle.text_lines.specs.Lines.{line_of, value_text}
@@ -12,10 +12,10 @@ pub record NamePart (sheet : List ℕ) (end : ℕ) : Type 0 where
   pub within : end ≤ length sheet
   pub name : take (end - length tape_key) (drop (length tape_key) sheet) ≡ value_text tape_key (line_of sheet)
 
-abbrev pub NameLineFound : List ℕ → NameLine → Type 0
-NameLineFound sheet (NameLine.Name end next) = Passed is_tape_line sheet 0 next × NamePart sheet end
-NameLineFound sheet NameLine.Bad = is_tape_line (line_of sheet) ≡ false
+abbrev pub NameLineFound : List ℕ → Option NameLine → Type 0
+NameLineFound sheet (Some line) = Passed is_tape_line sheet 0 line.next × NamePart sheet line.end
+NameLineFound sheet None = is_tape_line (line_of sheet) ≡ false
 
-abbrev pub RuleLineFound : List ℕ → ℕ → RuleLine → Type 0
-RuleLineFound sheet at (RuleLine.Value r next) = Passed is_rule_line sheet at next × (r ≡ names_sweep (line_of (drop at sheet)))
-RuleLineFound sheet at RuleLine.Bad = is_rule_line (line_of (drop at sheet)) ≡ false
+abbrev pub RuleLineFound : List ℕ → ℕ → Option RuleLine → Type 0
+RuleLineFound sheet at (Some line) = Passed is_rule_line sheet at line.next × (line.sweep ≡ names_sweep (line_of (drop at sheet)))
+RuleLineFound sheet at None = is_rule_line (line_of (drop at sheet)) ≡ false

@@ -1,20 +1,17 @@
 -- What the functions that read parts of a sheet find, by cases of their answers. No public contract cites this file.
-use Rattle.std.specs.Prelude.{ℕ, ◌+◌, ◌-◌, ◌≤◌, ◌<◌, ◌≡◌, false, cond, ◌||◌, List, [], ◌∷◌, length, drop, ltb}
-use Rattle.refusals.specs.declared.Refusal.TheVariants.{Accepted, ShortRow, RetiredRule}
+use Rattle.std.specs.Prelude.{ℕ, ◌≤◌, ◌<◌, ◌≡◌, ◌||◌, List, [], ◌∷◌, length, drop, ltb, Result, Ok, Err}
+use Rattle.refusals.specs.declared.Refusal.TheVariants.{ShortRow}
 use Rattle.refusals.specs.declared.Verdict.{Verdict}
-use Rattle.refusals.specs.Refusals.{is_refusal, refuse_if, refuse_at, first_of}
-use Rattle.sheet_reader.specs.declared.Reading.{Reading}
-use Rattle.sheet_reader.specs.declared.RuleLine.{RuleLine}
+use Rattle.refusals.specs.Refusals.{checked, refuse_if, first_of}
 use Rattle.sheet_reader.specs.declared.reader.Top.{Top}
-use Rattle.sheet_reader.specs.declared.reader.TopRead.{TopRead}
-use Rattle.sheet_reader.specs.declared.reader.BelowRead.{BelowRead}
-use Rattle.sheet_reader.specs.declared.reader.Judged.{Judged}
-use Rattle.text_bytes.specs.Text.{is_text}
+use Rattle.sheet_reader.specs.declared.reader.Below.{Below}
+use Rattle.sheet_reader.specs.declared.reader.Parts.{Parts}
+use Rattle.text_lines.specs.declared.BadLine.{BadLine}
 use Rattle.text_lines.specs.Lines.{is_pair_line, is_triple_line, first_bad_of}
-use Rattle.sheet_reader.specs.Lines.{file_key, want_key, least_text}
+use Rattle.sheet_reader.specs.Lines.{file_key, want_key}
 use Rattle.sheet_reader.specs.Found.{NamePart}
-use Rattle.sheet_reader.specs.Sheet.{most_sheet_files, sheet_head, sheet_turn, says_sweep, sheet_files, file_text, wants_text, sheet_wants, want_text, first_bad_top, first_bad_below}
-use Rattle.sheet_reader.specs.Reading.{sheet_verdict, refused_reading}
+use Rattle.sheet_reader.specs.Sheet.{most_sheet_files, sheet_head, sheet_turn, says_sweep, sheet_files, file_text, wants_text, sheet_wants, want_text, first_bad_top, first_bad_below, first_bad_line}
+use Rattle.sheet_reader.specs.Reading.{sheet_verdict, rule_verdict}
 
 -- The first five lines: their values, and what follows them.
 pub record TopIs (sheet : List ℕ) (top : Top) : Type 0 where
@@ -32,9 +29,9 @@ pub record TopBad (sheet : List ℕ) (line : ℕ) : Type 0 where
   pub first : first_bad_top sheet ≡ line
   pub some : 0 < line
 
-abbrev pub TopFound : List ℕ → TopRead → Type 0
-TopFound sheet (TopRead.Good top) = TopIs sheet top
-TopFound sheet (TopRead.Bad line) = TopBad sheet line
+abbrev pub TopFound : List ℕ → Result Top BadLine → Type 0
+TopFound sheet (Ok top) = TopIs sheet top
+TopFound sheet (Err bad) = TopBad sheet bad.line
 
 -- Where the file lines and the `wants` line start, once what stands above is as described.
 pub record FilesAt (sheet : List ℕ) (at files : ℕ) : Type 0 where
@@ -63,27 +60,48 @@ pub record BelowBad (sheet : List ℕ) (line : ℕ) : Type 0 where
   pub first : first_bad_below sheet ≡ line
   pub some : 0 < line
 
-abbrev pub BelowFound : List ℕ → BelowRead → Type 0
-BelowFound sheet (BelowRead.Good wants at) = BelowIs sheet wants at
-BelowFound sheet (BelowRead.Bad line) = BelowBad sheet line
+abbrev pub BelowFound : List ℕ → Result Below BadLine → Type 0
+BelowFound sheet (Ok below) = BelowIs sheet below.wants below.at
+BelowFound sheet (Err bad) = BelowBad sheet bad.line
 
--- A sheet that 12 or 11 refuses.
-pub record Unread (verdict : Verdict) (judged : Judged) : Type 0 where
-  pub same : judged.verdict ≡ verdict
-  pub file_at : judged.top.next ≡ 0
-  pub want_at : judged.at ≡ 0
+-- All lines of a sheet.
+pub record PartsAre (sheet : List ℕ) (parts : Parts) : Type 0 where
+  pub upper : TopIs sheet parts.top
+  pub below : BelowIs sheet parts.below.wants parts.below.at
 
--- One that they accept, with its parts.
-pub record JudgedGood (sheet : List ℕ) (judged : Judged) : Type 0 where
-  pub upper : TopIs sheet judged.top
-  pub below : BelowIs sheet judged.wants judged.at
+pub record PartsBad (sheet : List ℕ) (line : ℕ) : Type 0 where
+  pub first : first_bad_line sheet ≡ line
+  pub some : 0 < line
 
--- What they say of a sheet; the file and want lines start within it, whatever they say.
-pub record JudgedFound (sheet : List ℕ) (judged : Judged) : Type 0 where
-  pub verdict : judged.verdict ≡ sheet_verdict sheet
-  pub file_at : judged.top.next ≤ length sheet
-  pub want_at : judged.at ≤ length sheet
-  pub out : is_refusal judged.verdict.refusal ≡ false → JudgedGood sheet judged
+abbrev pub PartsFound : List ℕ → Result Parts BadLine → Type 0
+PartsFound sheet (Ok parts) = PartsAre sheet parts
+PartsFound sheet (Err bad) = PartsBad sheet bad.line
+
+-- What 12 and 11 say of a sheet.
+pub record SheetGood (sheet : List ℕ) (parts : Parts) : Type 0 where
+  pub accepted : Ok tt ≡ checked (sheet_verdict sheet)
+  pub are : PartsAre sheet parts
+
+abbrev pub SheetFound : List ℕ → Result Parts Verdict → Type 0
+SheetFound sheet (Ok parts) = SheetGood sheet parts
+SheetFound sheet (Err v) = Err v ≡ checked (sheet_verdict sheet)
+
+-- What they, then 19, then 8 say of a sheet and rows of these lengths.
+abbrev pub run_verdict : List ℕ → ℕ → ℕ → ℕ → ℕ → ℕ → Verdict
+run_verdict sheet starts lengths aggregates numbers counts =
+    first_of
+    (sheet_verdict sheet
+    ∷ rule_verdict sheet
+    ∷ refuse_if (((ltb starts (sheet_files sheet) || ltb lengths (sheet_files sheet)) || ltb aggregates (sheet_files sheet)) || (ltb numbers (sheet_wants sheet) || ltb counts (sheet_wants sheet))) ShortRow
+    ∷ [])
+
+pub record RunGood (sheet : List ℕ) (starts lengths aggregates numbers counts : ℕ) (parts : Parts) : Type 0 where
+  pub accepted : Ok tt ≡ checked (run_verdict sheet starts lengths aggregates numbers counts)
+  pub are : PartsAre sheet parts
+
+abbrev pub RunFound : List ℕ → ℕ → ℕ → ℕ → ℕ → ℕ → Result Parts Verdict → Type 0
+RunFound sheet starts lengths aggregates numbers counts (Ok parts) = RunGood sheet starts lengths aggregates numbers counts parts
+RunFound sheet starts lengths aggregates numbers counts (Err v) = Err v ≡ checked (run_verdict sheet starts lengths aggregates numbers counts)
 
 -- Lines of three numbers that are all as described, and rows with room for them.
 pub record TriplesReady (key sheet : List ℕ) (at count : ℕ) (firsts seconds thirds : List ℕ) : Type 0 where
@@ -92,27 +110,3 @@ pub record TriplesReady (key sheet : List ℕ) (at count : ℕ) (firsts seconds 
   pub room : count ≤ length firsts
   pub space : count ≤ length seconds
   pub more : count ≤ length thirds
-
--- What is judged of a sheet and rows of files of these lengths: 12 and 11, then 19, then 8.
-abbrev pub ruled_of : Judged → Verdict
-ruled_of judged = first_of (judged.verdict ∷ refuse_at (cond judged.top.sweep 4 0) RetiredRule ∷ [])
-
-abbrev pub files_verdict : Judged → ℕ → ℕ → ℕ → Verdict
-files_verdict judged starts lengths aggregates =
-    first_of
-    (ruled_of judged
-    ∷ refuse_if ((ltb starts judged.top.files || ltb lengths judged.top.files) || ltb aggregates judged.top.files) ShortRow
-    ∷ [])
-
--- What a line that ends so says of the rule, where it does not name the retired one.
-abbrev pub least_line : List ℕ → ℕ → RuleLine
-least_line rule end = cond (is_text least_text rule) (RuleLine.Value false (end + 1)) RuleLine.Bad
-
--- How many lines are filled, and what is answered, for a verdict.
-abbrev pub lines_filled : Verdict → ℕ → ℕ
-lines_filled v lines = cond (is_refusal v.refusal) 0 lines
-
-abbrev pub reading_of : Verdict → Top → ℕ → Reading
-reading_of v top wants =
-    cond (is_refusal v.refusal) (refused_reading v)
-    (record { refusal = Accepted; place = 0; head = top.head; turn = top.turn; files = top.files; wants = wants })

@@ -19,19 +19,21 @@ pub const EMPTY_TURN: u64 = 12000;
 
 // What the first line holds: where the name ends, and where the next line starts.
 #[derive(Clone, Copy)]
-pub enum NameLine {
-    Name { end: usize, next: usize },
-    Bad,
+pub struct NameLine {
+    pub end: usize,
+    pub next: usize,
 }
 
 // Whether the line names the retired rule.
+// Stays: `RuleLineTold` in the promises reads which of the two words stands there, as a flag.
 #[derive(Clone, Copy)]
-pub enum RuleLine {
-    Value { sweep: bool, next: usize },
-    Bad,
+pub struct RuleLine {
+    pub sweep: bool,
+    pub next: usize,
 }
 
 // What the reader answers: on a refusal every number but the place is 0. There is one rule, so none is answered.
+// Stays: `ReadAnswers` and `NothingRead` in the demands read each number of this record, 0 on a refusal, so that the answer is no Result.
 #[derive(Clone, Copy)]
 pub struct Reading {
     pub refusal: refusals::Refusal,

@@ -8,7 +8,7 @@ use native.Mathlib.Omega.{arith}
 use native.Mathlib.Nat.{le_refl}
 use native.Mathlib.Decide.{dec_le}
 use native.Mathlib.Numerals.{unary_clauses}
-use lib.ListN.{length, take, drop, replicate, length-replicate}
+use lib.ListN.{length, take, drop, length-replicate}
 use lib.Seq.{take_all}
 use borrow.Author.Tests.{le-ltb}
 use Rattle.refusals.specs.declared.Refusal.TheVariants.{Accepted}
@@ -22,7 +22,7 @@ use Rattle.sheet_reader.specs.Reading.{sheet_verdict, rule_verdict, read_verdict
 use Rattle.sheet_reader.proofs.Rows.{length_each}
 use Rattle.sheet_reader.proofs.Good.{few_files, few_wants}
 use Rattle.sheet_runs.specs.declared.SheetRun.{SheetRun}
-use Rattle.sheet_runs.specs.SheetRuns.{early_verdict, filled_up, in_rows, run_by_value}
+use Rattle.sheet_runs.specs.SheetRuns.{early_verdict, filled_up, run_by_value}
 use Rattle.sheet_runs.specs.Private.{said_by}
 
 -- What is left of a row of zeros.
@@ -99,8 +99,5 @@ module _ (sheet : List ℕ) where
 
 -- The first entries of a row, as far as it goes.
 module _ (row : List ℕ) (n end : ℕ) (is : end ≡ min n (length row)) where
-  pub in_row : end ≤ length row
-  in_row = omega (arith, is)
-
   pub first_entries : take end row ≡ take n row
   first_entries = by_cases (dec_le n (length row)) (λ h. let e : end ≡ n = omega (arith, is) in rw e) (λ h. let e : end ≡ length row = omega (arith, is) in rw e (take_all (length row) row (le_refl (length row)) ∙ sym (take_all n row (omega arith))))

@@ -1,7 +1,7 @@
 // sheet_runs: the run of a sheet by value. For whoever goes from a sheet to an answer: the reader's rows are lent here and nowhere above.
 #![tactic(auto)]
 
-ghost use Rattle.std.specs.Prelude.{◌≡◌, min, take};
+ghost use Rattle.std.specs.Prelude.{◌≡◌, take};
 ghost use Rattle.sheet_runs.specs.SheetRuns.{run_by_value};
 ghost use Rattle.sheet_runs.specs.Private.{said_by};
 
@@ -9,6 +9,8 @@ use refusals::Verdict;
 use sheet_reader::Reading;
 
 // What the reader says of a sheet, and the run that it read: so many entries of each row, and zeros behind them.
+// Stays: `SheetRunTold` in the promises reads verdict, numbers and entries of this record, zeros on a refusal, so that it is no Result. Rows of an array,
+// since the record is copied, and the house works without a heap.
 #[derive(Clone, Copy)]
 pub struct SheetRun {
     pub verdict: Verdict,
@@ -23,23 +25,12 @@ pub struct SheetRun {
     pub counts: [u64; 64],
 }
 
-// The lesser of a number and a length.
-fn within(n: u64, length: usize) -> usize
-    ensures { result ≡ min n length }
-{
-    let end = n as usize;
-    if end < length {
-        return end;
-    }
-    length
-}
-
 // The first n entries of a row, or the row where it has fewer.
 pub fn entries(row: &[u64], n: u64) -> &[u64]
     ensures result_value { result.now ≡ take n row.now }
     ensures ref_ptr_value { result.ref_ptr ≡ row.entry.ref_ptr }
 {
-    let end = within(n, row.len());
+    let end = row.len().min(n as usize);
     &row[..end]
 }
 

@@ -2,7 +2,7 @@
 -- the sheet is 01's.
 use Prim.Native.Nat.{ℕ, ◌≤◌}
 use mathlib.Core.Path.{◌≡◌, ap, sym, ◌∙◌}
-use mathlib.Core.Bool.{Bool, true, false, not, true≢false}
+use mathlib.Core.Bool.{true, false, not, true≢false}
 use mathlib.Core.Logic.{⊎_elim}
 use mathlib.Core.List.{List, [], ◌∷◌, ◌++◌, map}
 use native.Mathlib.Omega.{arith}
@@ -13,8 +13,10 @@ use borrow.Author.Tests.{le-ltb}
 use Rattle.refusals.specs.declared.Refusal.TheVariants.{BadName}
 use Rattle.refusals.specs.declared.Verdict.{Verdict}
 use Rattle.walk.specs.declared.Answer.{Answer}
-use Rattle.refusals.specs.Refusals.{is_refusal, refuse_if, first_of, accepted}
-use Rattle.refusals.proofs.Verdicts.{refuses, first_refuses}
+use Rattle.std.specs.Prelude.{Ok, Err}
+use Rattle.refusals.specs.Refusals.{is_refusal, checked, refuse_if, first_of, accepted}
+use Rattle.refusals.proofs.Verdicts.{refuses}
+use Rattle.refusals.proofs.Checked.{passed, stopped, first_stops}
 use Rattle.runs.specs.Run.{Run, Stop, stops_of, want_stops_of, total, most_wants}
 use Rattle.runs.specs.Judging.{judge_of}
 use Rattle.runs.specs.Lists.{list_of, list_verdict}
@@ -39,79 +41,88 @@ use Rattle.text_pages.specs.Printing.{Wrote}
 use Rattle.sheet_writer.specs.Private.{plan_most, PlanFits}
 use Rattle.sheet_writer.proofs.Sheets.{last_verdict, judged_refused, judged_passes, run_passes, name_fits}
 
--- v is the run's verdict, w that of the run and the name, f whether w refuses.
-module _ (name : List ℕ) (run : Run) (froms tos row : List ℕ) (v w : Verdict) (v-is : v ≡ judge_any_of run) (w-is : w ≡ first_of (v ∷ refuse_if (not (is_name name)) BadName ∷ [])) (f : Bool)
-    (f-is : f ≡ is_refusal w.refusal) where
+-- What the judging of the run and the name's say together.
+abbrev plan_judged : List ℕ → Run → Verdict
+plan_judged name run = first_of (judge_any_of run ∷ refuse_if (not (is_name name)) BadName ∷ [])
+
+module _ (name : List ℕ) (run : Run) (froms tos row : List ℕ) where
   abbrev times-of : List ℕ
   times-of = times_of run.turn (head_at run.head) (run_legs run (list_of froms tos)) (want_stops_of run)
 
   abbrev legs-of : List ℕ
   legs-of = legs_for (run_legs run (list_of froms tos)) (want_stops_of run)
 
-  pub plan_refused : f ≡ true → plan_any_sheet_verdict name run froms tos row ≡ w
+  pub plan_refused : (e : Verdict) → Err e ≡ checked (plan_judged name run) → Err e ≡ checked (plan_any_sheet_verdict name run froms tos row)
   unfolding plan_any_sheet_verdict
-  plan_refused e = judged_refused name (judge_any_of run) false v w v-is w-is f f-is (list_verdict_any run.head (stops_of run) froms tos ∷ row_verdict (plan_any_text name run froms tos) row ∷ []) e
+  plan_refused = judged_refused name (judge_any_of run) false (list_verdict_any run.head (stops_of run) froms tos ∷ row_verdict (plan_any_text name run froms tos) row ∷ [])
 
-  module _ (good : f ≡ false) where
+  module _ (u : Unit) (good : Ok u ≡ checked (plan_judged name run)) where
     pub plan_good : GoodAnyRun run
-    plan_good = accepted_any run (run_passes name (judge_any_of run) false v w v-is w-is f f-is good)
+    plan_good = accepted_any run (run_passes name (judge_any_of run) false u good)
 
     plan_passes_here : plan_any_sheet_verdict name run froms tos row ≡ first_of (list_verdict_any run.head (stops_of run) froms tos ∷ row_verdict (plan_any_text name run froms tos) row ∷ [])
     unfolding plan_any_sheet_verdict
-    plan_passes_here = judged_passes name (judge_any_of run) false v w v-is w-is f f-is good (list_verdict_any run.head (stops_of run) froms tos ∷ row_verdict (plan_any_text name run froms tos) row ∷ [])
+    plan_passes_here = judged_passes name (judge_any_of run) false u good (list_verdict_any run.head (stops_of run) froms tos ∷ row_verdict (plan_any_text name run froms tos) row ∷ [])
 
-    -- a is what the pricer answered with rows for times and legs that are long enough, g whether that refuses.
+    -- a is what the pricer answered with rows for times and legs that are long enough.
     module _ (times legs : List ℕ) (room : most_wants ≤ length times) (space : most_wants ≤ length legs) (a : Answer)
-        (a-is : a ≡ price_any_answer run froms tos (read_rows times legs)) (g : Bool) (g-is : g ≡ is_refusal a.refusal) where
+        (a-is : a ≡ price_any_answer run froms tos (read_rows times legs)) where
       list : Verdict
       list = list_verdict_any run.head (stops_of run) froms tos
+
+      abbrev told : Verdict
+      told = record { refusal = a.refusal; place = a.place }
 
       long_enough_here : (row : List ℕ) → most_wants ≤ length row → ltb (length row) (length run.numbers) ≡ false
       long_enough_here row l = le-ltb (length row) (length run.numbers) (omega (arith, plan_good.run.wants.few))
 
       price_verdict_here : price_any_verdict run froms tos (read_rows times legs) ≡ first_of (list ∷ accepted ∷ [])
       unfolding price_any_verdict list
-      price_verdict_here = rw (run_passes name (judge_any_of run) false v w v-is w-is f f-is good, long_enough_here times room, long_enough_here legs space)
+      price_verdict_here = rw (run_passes name (judge_any_of run) false u good, long_enough_here times room, long_enough_here legs space)
 
-      priced_refused : is_refusal list.refusal ≡ true → a ≡ refusal_answer list
+      priced_refused : refuses list ≡ true → a ≡ refusal_answer list
       unfolding price_any_answer
       priced_refused e = a-is ∙ rw (price_verdict_here, e, e)
 
-      priced_good : is_refusal list.refusal ≡ false → a ≡ priced_any_answer run (list_of froms tos)
+      priced_good : refuses list ≡ false → a ≡ priced_any_answer run (list_of froms tos)
       unfolding price_any_answer
       priced_good e = a-is ∙ rw (price_verdict_here, e)
 
-      list_says : is_refusal list.refusal ≡ g
+      list_says : refuses list ≡ refuses told
       unfolding priced_any_answer
       list_says =
           ⊎_elim
-          (λ e. ap (λ x. is_refusal x.refusal) (sym (priced_refused e)) ∙ sym g-is)
-          (λ e. e ∙ sym (g-is ∙ ap (λ x. is_refusal x.refusal) (priced_good e)))
-          (true_or_false (is_refusal list.refusal))
+          (λ e. ap (λ x. is_refusal x.refusal) (sym (priced_refused e)))
+          (λ e. e ∙ sym (ap (λ x. is_refusal x.refusal) (priced_good e)))
+          (true_or_false (refuses list))
 
-      pub plan_list_refused : g ≡ true → plan_any_sheet_verdict name run froms tos row ≡ record { refusal = a.refusal; place = a.place }
+      pub plan_list_refused : (e : Verdict) → Err e ≡ checked told → Err e ≡ checked (plan_any_sheet_verdict name run froms tos row)
       unfolding list
-      plan_list_refused e =
-          plan_passes_here ∙ rw (list_says ∙ e) (ap (λ x. record { refusal = x.refusal; place = x.place }) (sym (priced_refused (list_says ∙ e))))
+      plan_list_refused e said =
+          let so = list_says ∙ (stopped told e said).so in
+          said ∙ ap checked (sym (plan_passes_here ∙ rw so (ap (λ x. record { refusal = x.refusal; place = x.place }) (sym (priced_refused so)))))
 
-      module _ (fine : g ≡ false) where
+      module _ (w : Unit) (accepts : Ok w ≡ checked told) where
+        fine : refuses list ≡ false
+        fine = list_says ∙ passed told w accepts
+
         pub good_list_lem : GoodList (stops_of run) froms tos
         unfolding list
-        good_list_lem = any_good run.head (stops_of run) froms tos (list_says ∙ fine)
+        good_list_lem = any_good run.head (stops_of run) froms tos fine
 
         pub plan_last : plan_any_sheet_verdict name run froms tos row ≡ row_verdict (plan_any_text name run froms tos) row
         unfolding list
-        plan_last = plan_passes_here ∙ rw (list_says ∙ fine) (last_verdict (plan_any_text name run froms tos) row)
+        plan_last = plan_passes_here ∙ rw fine (last_verdict (plan_any_text name run froms tos) row)
 
         -- The times and legs that the pricer left in the rows.
         module _ (times' legs' : List ℕ) (rows_are : read_rows times' legs' ≡ price_any_rows run froms tos (read_rows times legs)) where
           timed : times' ≡ times-of ++ drop (length run.numbers) times
           unfolding price_any_rows
-          timed = ap (λ x. x.times) rows_are ∙ rw (price_verdict_here, list_says ∙ fine)
+          timed = ap (λ x. x.times) rows_are ∙ rw (price_verdict_here, fine)
 
           numbered : legs' ≡ legs-of ++ drop (length run.numbers) legs
           unfolding price_any_rows
-          numbered = ap (λ x. x.legs) rows_are ∙ rw (price_verdict_here, list_says ∙ fine)
+          numbered = ap (λ x. x.legs) rows_are ∙ rw (price_verdict_here, fine)
 
           -- One number for each want.
           each_want : (f : Stop → ℕ) → length (map f (want_stops_of run)) ≡ length run.numbers
@@ -141,7 +152,7 @@ module _ (name : List ℕ) (run : Run) (froms tos row : List ℕ) (v w : Verdict
           plan_fits page wide =
               record {
                 room = wide;
-                short = name_fits name (judge_any_of run) false v w v-is w-is f f-is good;
+                short = name_fits name (judge_any_of run) false u good;
                 few = omega (arith, list_fits_lem (lifted run) plan_good.run froms tos good_list_lem, plan_good.run.wants.few);
                 even = good_list_lem.even;
                 wants = plan_good.run.wants.few;
@@ -154,7 +165,7 @@ module _ (name : List ℕ) (run : Run) (froms tos row : List ℕ) (v w : Verdict
               → Wrote page 0 (plan_any_text name run froms tos) plan_most page' n
           unfolding plan_any_text
           plan_wrote reads e page page' n w =
-              rw (← e, ← priced_good (list_says ∙ fine), ← times_taken, ← legs_taken) w
+              rw (← e, ← priced_good (fine), ← times_taken, ← legs_taken) w
 
 -- Of a run that 01 accepts nothing is pulled: the sheet, the checks and what is written are 01's.
 module _ (name : List ℕ) (run : Run) (accepts : refuses (judge_of run) ≡ false) (froms tos : List ℕ) where
@@ -174,7 +185,7 @@ module _ (name : List ℕ) (run : Run) (accepts : refuses (judge_of run) ≡ fal
   written_same row r row' h = record { answer = h.answer ∙ rw (sheet_same row, text_same); left = h.left ∙ rw (sheet_same row, text_same) }
 
 -- One that the judging refuses is refused so.
-pub run_refused : (name : List ℕ) (run : Run) (froms tos row : List ℕ) → refuses (judge_of run) ≡ true → plan_sheet_verdict name run froms tos row ≡ judge_of run
+pub run_refused : (name : List ℕ) (run : Run) (froms tos row : List ℕ) (e : Verdict) → Err e ≡ checked (judge_of run) → Err e ≡ checked (plan_sheet_verdict name run froms tos row)
 unfolding plan_sheet_verdict
-run_refused name run froms tos row e =
-    sym (first_refuses (judge_of run) (refuse_if (not (is_name name)) BadName ∷ list_verdict (stops_of run) froms tos ∷ row_verdict (plan_text name run froms tos) row ∷ []) e)
+run_refused name run froms tos row =
+    first_stops (judge_of run) (refuse_if (not (is_name name)) BadName ∷ list_verdict (stops_of run) froms tos ∷ row_verdict (plan_text name run froms tos) row ∷ [])

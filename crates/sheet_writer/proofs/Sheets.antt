@@ -1,78 +1,55 @@
 -- What the run sheet writer answers and leaves in the row, step by step.
-use Prim.Native.Nat.{ℕ, ◌+◌, ◌≤◌, ◌<◌}
+use Prim.Native.Nat.{ℕ, ◌≤◌}
 use mathlib.Core.Path.{◌≡◌, refl, ap, sym, ◌∙◌}
-use mathlib.Core.Bool.{Bool, true, false, cond, not, ◌||◌, true≢false}
+use mathlib.Core.Bool.{Bool, true, false, not, ◌||◌, true≢false}
 use mathlib.Core.List.{List, [], ◌∷◌, ◌++◌}
 use native.Mathlib.Omega.{arith}
 use lib.ListN.{length, take, drop, take-append-drop}
-use lib.Seq.{take-length, length-take-le}
 use lib.Dec.{ltb, leb}
-use borrow.Author.Tests.{lt-ltb, le-ltb, leb-true, ltb-true, ltb-false, not-false}
+use borrow.Author.Tests.{leb-true, ltb-false, not-false}
 use Rattle.refusals.specs.declared.Refusal.TheVariants.{BadName, ShortRow}
 use Rattle.refusals.specs.declared.Verdict.{Verdict}
-use Rattle.refusals.specs.Refusals.{is_refusal, refuse_if, first_of}
+use Rattle.std.specs.Prelude.{Result, Ok, Err}
+use Rattle.refusals.specs.Refusals.{is_refusal, accepted, checked, refuse_if, first_of}
 use Rattle.runs.specs.Run.{Run}
 use Rattle.runs.specs.Judging.{judge_of}
-use Rattle.runs.proofs.Judged.{GoodRun, accepted_run}
+use Rattle.runs.proofs.Judged.{accepted_run}
 use Rattle.runs.proofs.Search.{or_false_both}
-use Rattle.refusals.proofs.Verdicts.{test_says, AllAccept, all_accept, accepts_if}
+use Rattle.refusals.proofs.Verdicts.{AllAccept, all_accept, accepts_if}
+use Rattle.refusals.proofs.Checked.{passed, stopped, last_decides}
 use Rattle.sheet_writer.specs.declared.Written.{Written}
 use Rattle.text_bytes.specs.Text.{is_name, is_name_byte, all_of, between}
 use Rattle.sheet_reader.specs.Sheet.{most_sheet_files}
-use Rattle.sheet_writer.specs.Writing.{sheet_text, row_verdict, write_verdict, written_of, written_answer, written_row, Handed}
+use Rattle.sheet_writer.specs.Writing.{sheet_text, checked_after, row_verdict, write_verdict, written_of, written_answer, written_row, Handed}
 use Rattle.text_pages.specs.Printing.{Wrote, Put}
 use Rattle.sheet_writer.specs.Private.{sheet_most, SheetFits}
 use Rattle.text_bytes.proofs.Bytes.{and_true_both}
 
--- A refusal: the answer is the refusal's, and the row stays.
-pub refused_handed : (verdict v : Verdict) (text row : List ℕ) (n : ℕ) (r : Written) → verdict ≡ v → is_refusal v.refusal ≡ true → r ≡ written_of v n → Handed verdict text row r row
-unfolding written_answer written_row
-refused_handed verdict v text row n r e refuses r-is = record { answer = r-is ∙ rw (e, refuses); left = rw (e, refuses) }
-
--- A row is handed n bytes of a text: none where it is too short, else all.
-module _ (text row : List ℕ) (n : ℕ) (row' : List ℕ) (m : ℕ) (put : Put row 0 (take n text) (length (take n text)) row' m)
-    (v : Verdict) (v-is : v ≡ refuse_if (ltb (length row) (length text)) ShortRow) (r : Written) (r-is : r ≡ written_of v (length text)) where
-  bytes_put_here : n ≤ length text → n ≤ length row → Wrote row 0 (take n text) (length (take n text)) row' m
-  bytes_put_here l k = put.room (omega (arith, length-take-le n text l))
-
-  handed_answer : r ≡ written_answer (row_verdict text row) text
-  unfolding written_answer row_verdict
-  handed_answer = r-is ∙ ap (λ x. written_of x (length text)) v-is
-
-  none_handed : length row < length text → n ≡ 0 → Handed (row_verdict text row) text row r row'
-  unfolding written_row row_verdict
-  none_handed short none =
-      let w = bytes_put_here (omega arith) (omega arith) in
-      let front : m ≡ 0 = w.after ∙ rw none in
-      let same : row' ≡ row = rw front at w.later in
-      record { answer = handed_answer; left = rw (lt-ltb (length row) (length text) short) same }
-
-  all_handed : length text ≤ length row → n ≡ length text → Handed (row_verdict text row) text row r row'
-  unfolding written_row row_verdict
-  all_handed long all =
-      let w = bytes_put_here (omega arith) (omega arith) in
-      let whole : take n text ≡ text = rw all (take-length text) in
-      let size : length text ≡ m = omega (arith, w.after, ap length whole) in
-      let bytes : take m row' ≡ text = w.bytes ∙ whole in
-      record {
-        answer = handed_answer;
-        left = rw (le-ltb (length row) (length text) long, size, ← w.later) (sym (take-append-drop m row') ∙ ap (λ t. t ++ drop m row') bytes);
-      }
-
-  pub handed : n ≡ cond (ltb (length row) (length text)) 0 (length text) → Handed (row_verdict text row) text row r row'
-  handed is = go (ltb (length row) (length text)) refl
-    where
-      go : (b : Bool) → ltb (length row) (length text) ≡ b → Handed (row_verdict text row) text row r row'
-      go true e = none_handed (ltb-true (length row) (length text) e) (is ∙ rw e)
-      go false e = all_handed (ltb-false (length row) (length text) e) (is ∙ rw e)
-
--- As many bytes as go into a row are there.
-pub fitting_in : (n text row : ℕ) → n ≡ cond (ltb row text) 0 text → n ≤ text
-fitting_in n text row is = go (ltb row text) refl
+-- A name judged behind another check: the two in turn.
+pub judged_after : (v w : Verdict) (before r : Result Unit Verdict) → before ≡ checked v → r ≡ checked_after before w → r ≡ checked (first_of (v ∷ w ∷ []))
+judged_after v w before r is after = go (is_refusal v.refusal) refl (rw is at after)
   where
-    go : (b : Bool) → ltb row text ≡ b → n ≤ text
-    go true e = let none : n ≡ 0 = is ∙ rw e in omega arith
-    go false e = let all : n ≡ text = is ∙ rw e in omega arith
+    go : (b : Bool) → is_refusal v.refusal ≡ b → r ≡ checked_after (checked v) w → r ≡ checked (first_of (v ∷ w ∷ []))
+    go true e a = rw (e, e) (rw e at a)
+    go false e a = rw e (last_decides w r (rw e at a))
+
+-- A refusal: the answer is the refusal's, and the row stays.
+pub refused_handed : (verdict e : Verdict) (text row : List ℕ) (n : ℕ) (r : Written) → Err e ≡ checked verdict → r ≡ written_of e n → Handed verdict text row r row
+unfolding written_answer written_row
+refused_handed verdict e text row n r said r-is = let s = stopped verdict e said in record { answer = r-is ∙ rw (← s.is, s.so); left = rw s.so }
+
+-- A text is handed to a row that has room for it.
+pub text_handed : (text row row' : List ℕ) (m : ℕ) → Put row 0 text (length text) row' m → (u : Unit) → Ok u ≡ checked (row_verdict text row) → (v : Verdict) → v ≡ accepted
+    → (r : Written) → r ≡ written_of v (length text) → Handed (row_verdict text row) text row r row'
+unfolding written_answer written_row row_verdict
+text_handed text row row' m put u said v v-is r r-is =
+    let fits = accepts_if (ltb (length row) (length text)) ShortRow refl (passed (row_verdict text row) u said) in
+    let w = put.room (omega (arith, ltb-false (length row) (length text) fits)) in
+    let size : length text ≡ m = omega (arith, w.after) in
+    record {
+      answer = r-is ∙ rw (v-is, fits);
+      left = rw (fits, size, ← w.later) (sym (take-append-drop m row') ∙ ap (λ t. t ++ drop m row') w.bytes);
+    }
 
 -- The first bytes of a page are the text put there.
 pub part_length : (page text : List ℕ) (most : ℕ) (page' : List ℕ) (n : ℕ) → Wrote page 0 text most page' n → n ≡ length (take n page')
@@ -117,21 +94,20 @@ name_length name e =
     let bounds = and_true_both (leb 1 (length name)) (leb (length name) 16) both.0 in
     leb-true (length name) 16 bounds.1
 
--- The judging of the run, j, and the name's: w is what they say together, f whether that refuses.
-module _ (name : List ℕ) (j : Verdict) (over : Bool) (v w : Verdict) (v-is : v ≡ j)
-    (w-is : w ≡ first_of (v ∷ refuse_if (over || not (is_name name)) BadName ∷ [])) (f : Bool) (f-is : f ≡ is_refusal w.refusal) where
-  judged_is : w ≡ first_of (j ∷ refuse_if (over || not (is_name name)) BadName ∷ [])
-  judged_is = w-is ∙ ap (λ x. first_of (x ∷ refuse_if (over || not (is_name name)) BadName ∷ [])) v-is
+-- The judging of the run, j, and the name's, handed on by `?`.
+module _ (name : List ℕ) (j : Verdict) (over : Bool) where
+  abbrev name_check : Verdict
+  name_check = refuse_if (over || not (is_name name)) BadName
 
-  pub judged_refused : (ws : List Verdict) → f ≡ true → first_of (j ∷ refuse_if (over || not (is_name name)) BadName ∷ ws) ≡ w
-  judged_refused ws e = front_refuses (j ∷ refuse_if (over || not (is_name name)) BadName ∷ []) ws (test_says judged_is f-is e) ∙ sym judged_is
+  pub judged_refused : (ws : List Verdict) (e : Verdict) → Err e ≡ checked (first_of (j ∷ name_check ∷ [])) → Err e ≡ checked (first_of (j ∷ name_check ∷ ws))
+  judged_refused ws e said = said ∙ ap checked (sym (front_refuses (j ∷ name_check ∷ []) ws (stopped (first_of (j ∷ name_check ∷ [])) e said).so))
 
-  module _ (good : f ≡ false) where
-    pub judged_passes : (ws : List Verdict) → first_of (j ∷ refuse_if (over || not (is_name name)) BadName ∷ ws) ≡ first_of ws
-    judged_passes ws = front_passes (j ∷ refuse_if (over || not (is_name name)) BadName ∷ []) ws (test_says judged_is f-is good)
+  module _ (u : Unit) (said : Ok u ≡ checked (first_of (j ∷ name_check ∷ []))) where
+    pub judged_passes : (ws : List Verdict) → first_of (j ∷ name_check ∷ ws) ≡ first_of ws
+    judged_passes ws = front_passes (j ∷ name_check ∷ []) ws (passed (first_of (j ∷ name_check ∷ [])) u said)
 
-    passes : AllAccept (j ∷ refuse_if (over || not (is_name name)) BadName ∷ [])
-    passes = all_accept (j ∷ refuse_if (over || not (is_name name)) BadName ∷ []) (test_says judged_is f-is good)
+    passes : AllAccept (j ∷ name_check ∷ [])
+    passes = all_accept (j ∷ name_check ∷ []) (passed (first_of (j ∷ name_check ∷ [])) u said)
 
     pub run_passes : is_refusal j.refusal ≡ false
     run_passes = passes.0
@@ -145,25 +121,23 @@ module _ (name : List ℕ) (j : Verdict) (over : Bool) (v w : Verdict) (v-is : v
     pub name_fits : length name ≤ 16
     name_fits = name_length name (not-false (is_name name) name_passes.1)
 
-pub good_run : (name : List ℕ) (run : Run) (over : Bool) (v w : Verdict) → v ≡ judge_of run → w ≡ first_of (v ∷ refuse_if (over || not (is_name name)) BadName ∷ []) → (f : Bool) → f ≡ is_refusal w.refusal → f ≡ false → GoodRun run
-good_run name run over v w v-is w-is f f-is good = accepted_run run (run_passes name (judge_of run) over v w v-is w-is f f-is good)
-
 -- The run sheet writer.
-module _ (name : List ℕ) (run : Run) (row : List ℕ) (v w : Verdict) (v-is : v ≡ judge_of run)
-    (w-is : w ≡ first_of (v ∷ refuse_if (ltb most_sheet_files (length run.starts) || not (is_name name)) BadName ∷ [])) (f : Bool) (f-is : f ≡ is_refusal w.refusal) where
-  pub write_refused : f ≡ true → write_verdict name run row ≡ w
-  unfolding write_verdict
-  write_refused e = judged_refused name (judge_of run) (ltb most_sheet_files (length run.starts)) v w v-is w-is f f-is (row_verdict (sheet_text name run) row ∷ []) e
+module _ (name : List ℕ) (run : Run) (row : List ℕ) where
+  abbrev over : Bool
+  over = ltb most_sheet_files (length run.starts)
 
-  module _ (good : f ≡ false) where
+  pub write_refused : (e : Verdict) → Err e ≡ checked (first_of (judge_of run ∷ refuse_if (over || not (is_name name)) BadName ∷ [])) → Err e ≡ checked (write_verdict name run row)
+  unfolding write_verdict
+  write_refused = judged_refused name (judge_of run) over (row_verdict (sheet_text name run) row ∷ [])
+
+  module _ (u : Unit) (said : Ok u ≡ checked (first_of (judge_of run ∷ refuse_if (over || not (is_name name)) BadName ∷ []))) where
     pub sheet_fits : (page : List ℕ) → sheet_most ≤ length page → SheetFits page name run.starts run.lengths run.aggregates run.numbers run.counts
     sheet_fits page room =
-        let over = ltb most_sheet_files (length run.starts) in
-        let g = good_run name run over v w v-is w-is f f-is good in
+        let g = accepted_run run (run_passes name (judge_of run) over u said) in
         record {
           room = room;
-          short = name_fits name (judge_of run) over v w v-is w-is f f-is good;
-          files = ltb-false most_sheet_files (length run.starts) (few_files name (judge_of run) over v w v-is w-is f f-is good);
+          short = name_fits name (judge_of run) over u said;
+          files = ltb-false most_sheet_files (length run.starts) (few_files name (judge_of run) over u said);
           table = g.files.table.equal;
           numbered = g.files.rows;
           wants = g.wants.few;
@@ -172,9 +146,7 @@ module _ (name : List ℕ) (run : Run) (row : List ℕ) (v w : Verdict) (v-is : 
 
     pub sheet_last : write_verdict name run row ≡ row_verdict (sheet_text name run) row
     unfolding write_verdict
-    sheet_last =
-        judged_passes name (judge_of run) (ltb most_sheet_files (length run.starts)) v w v-is w-is f f-is good (row_verdict (sheet_text name run) row ∷ [])
-        ∙ last_verdict (sheet_text name run) row
+    sheet_last = judged_passes name (judge_of run) over u said (row_verdict (sheet_text name run) row ∷ []) ∙ last_verdict (sheet_text name run) row
 
 -- A writer's contract determines the answer and the row.
 pub handed_determined : (v : Verdict) (text row : List ℕ) (r s : Written) (row' row'' : List ℕ) → Handed v text row r row' → Handed v text row s row'' → (r ≡ s) × (row' ≡ row'')

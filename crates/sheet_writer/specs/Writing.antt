@@ -1,8 +1,8 @@
 -- The text of a run sheet, what the run sheet writer answers, for every input, and the row that it leaves.
-use Rattle.std.specs.Prelude.{ℕ, ◌≡◌, cond, not, ◌||◌, List, [], ◌∷◌, ◌++◌, length, drop, ltb}
+use Rattle.std.specs.Prelude.{ℕ, ◌≡◌, Result, Ok, Err, cond, not, ◌||◌, List, [], ◌∷◌, ◌++◌, length, drop, ltb}
 use Rattle.refusals.specs.declared.Refusal.TheVariants.{Accepted, BadName, ShortRow}
 use Rattle.refusals.specs.declared.Verdict.{Verdict}
-use Rattle.refusals.specs.Refusals.{is_refusal, refuse_if, first_of}
+use Rattle.refusals.specs.Refusals.{is_refusal, checked, refuse_if, first_of}
 use Rattle.runs.specs.Run.{Run}
 use Rattle.runs.specs.Judging.{judge_of}
 use Rattle.sheet_writer.specs.declared.Written.{Written}
@@ -26,6 +26,11 @@ sheet_text name run =
     ++ triple_lines file_key run.starts run.lengths run.aggregates
     ++ number_line wants_key (length run.numbers)
     ++ pair_lines want_key run.numbers run.counts
+
+-- A check behind one whose refusal is handed on.
+abbrev pub checked_after : Result Unit Verdict → Verdict → Result Unit Verdict
+checked_after (Ok u) v = checked v
+checked_after (Err before) v = Err before
 
 -- 8: a row shorter than the sheet.
 unfoldable pub row_verdict : List ℕ → List ℕ → Verdict

@@ -15,6 +15,7 @@ pub use refusal::write_refusal;
 pub use writer::write_sheet;
 
 // What a writer answers: the number of bytes of the sheet, 0 on a refusal.
+// Stays: `WriteAnswers` in the demands reads kind, place and bytes of this record, 0 bytes on a refusal, so that the answer is no Result.
 #[derive(Clone, Copy)]
 pub struct Written {
     pub refusal: refusals::Refusal,

@@ -1,14 +1,14 @@
 // A line for each entry of two or three rows; the name's check; a page handed out. A sheet is put together on a page of its own, so that a row too
 // short for it is left alone.
-ghost use Rattle.std.specs.Prelude.{◌≡◌, cond, not, ◌||◌, [], ◌∷◌, ◌+◌, ◌*◌, ◌≤◌, length, ltb};
+ghost use Rattle.std.specs.Prelude.{◌≡◌, not, ◌||◌, ◌+◌, ◌*◌, ◌≤◌, length};
 ghost use Rattle.refusals.specs.declared.Refusal.TheVariants.{BadName};
-ghost use Rattle.refusals.specs.Refusals.{is_refusal, refuse_if, first_of};
+ghost use Rattle.refusals.specs.Refusals.{refuse_if};
 ghost use Rattle.text_bytes.specs.Text.{is_name};
 ghost use Rattle.text_pages.specs.Printing.{pair_lines, triple_lines, Wrote};
-ghost use Rattle.sheet_writer.specs.Writing.{row_verdict, written_of, Handed};
+ghost use Rattle.sheet_writer.specs.Writing.{checked_after, row_verdict, written_of, Handed};
 
 use crate::Written;
-use refusals::{Refusal, Verdict, refuse_if, refused};
+use refusals::{Refusal, Verdict};
 use text_bytes::is_name;
 use text_pages::{put, put_pair_line, put_triple_line};
 
@@ -26,10 +26,8 @@ pub(crate) fn put_pairs(
     ensures { Wrote page.old at (pair_lines key.now firsts.now seconds.now) (length firsts.now * 49) page.new result }
 {
     let mut next = at;
-    let mut i: usize = 0;
-    while i < firsts.len() {
-        next = put_pair_line(page, next, key, firsts[i], seconds[i]);
-        i += 1;
+    for (first, second) in firsts.iter().zip(seconds) {
+        next = put_pair_line(page, next, key, *first, *second);
     }
     next
 }
@@ -50,74 +48,45 @@ pub(crate) fn put_triples(
     ensures { Wrote page.old at (triple_lines key.now firsts.now seconds.now thirds.now) (length firsts.now * 68) page.new result }
 {
     let mut next = at;
-    let mut i: usize = 0;
-    while i < firsts.len() {
+    for i in 0..firsts.len() {
         next = put_triple_line(page, next, key, firsts[i], seconds[i], thirds[i]);
-        i += 1;
     }
     next
 }
 
-// 13 for a name that is none.
-fn judge_letters(name: &[u8]) -> Verdict
-    ensures { result ≡ refuse_if (not (is_name name.now)) BadName }
-{
-    refuse_if(!is_name(name), Refusal::BadName)
-}
-
 // 13, unless what was judged before refuses: more files than a sheet takes, or a name that is none.
-pub fn judge_name(before: Verdict, over: bool, name: &[u8]) -> Verdict
-    ensures { result ≡ first_of (before ∷ refuse_if (over || not (is_name name.now)) BadName ∷ []) }
+pub fn judge_name(before: Result<(), Verdict>, over: bool, name: &[u8]) -> Result<(), Verdict>
+    ensures { result ≡ checked_after before (refuse_if (over || not (is_name name.now)) BadName) }
 {
-    if refused(before) {
-        return before;
-    }
-    if over {
-        return refuse_if(over, Refusal::BadName);
-    }
-    judge_letters(name)
-}
-
-// How many bytes are answered: none on a refusal.
-fn bytes_of(verdict: Verdict, bytes: u64) -> u64
-    ensures { result ≡ cond (is_refusal verdict.refusal) 0 bytes }
-{
-    if refused(verdict) { 0 } else { bytes }
+    before?;
+    Refusal::BadName.when(over || !is_name(name))
 }
 
 // The answer to a verdict: on a refusal kind and place, and 0 bytes.
 pub fn answer_to(verdict: Verdict, bytes: u64) -> Written
     ensures { result ≡ written_of verdict bytes }
 {
-    let refusal = verdict.refusal;
-    let kept = bytes_of(verdict, bytes);
-    if refused(verdict) {
-        return Written {
-            refusal,
-            place: verdict.place,
-            bytes: kept,
-        };
+    match verdict.told() {
+        Ok(()) => Written {
+            refusal: Refusal::Accepted,
+            place: 0,
+            bytes,
+        },
+        Err(refusal) => Written {
+            refusal: refusal.refusal,
+            place: refusal.place,
+            bytes: 0,
+        },
     }
-    Written {
-        refusal: Refusal::Accepted,
-        place: 0,
-        bytes: kept,
-    }
-}
-
-// How many of so many bytes go into a row of a length: all, or none.
-fn fitting(bytes: usize, row: usize) -> usize
-    ensures { result ≡ cond (ltb row bytes) 0 bytes }
-{
-    if row < bytes { 0 } else { bytes }
 }
 
 // The text as a sheet in the first bytes of a row. A row too short for it takes none of it.
 pub fn hand_out(text: &[u8], out: &mut [u8]) -> Written
     ensures { Handed (row_verdict text.now out.old) text.now out.old result out.new }
 {
-    let short = out.len() < text.len();
-    let bytes = fitting(text.len(), out.len());
-    put(out, 0, &text[..bytes]);
-    answer_to(refuse_if(short, Refusal::ShortRow), text.len() as u64)
+    if let Err(refusal) = Refusal::ShortRow.when(out.len() < text.len()) {
+        return answer_to(refusal, 0);
+    }
+    put(out, 0, text);
+    answer_to(Verdict::accepted(), text.len() as u64)
 }

@@ -1,8 +1,11 @@
 // The plan sheet writer: it prices the list that it is given, and writes what the pricer answers. The head may stand anywhere; 01's sheet is the one
 // of a run whose head 01 accepts.
-ghost use Rattle.std.specs.Prelude.{◌≡◌, ◌≤◌, length};
+ghost use Rattle.std.specs.Prelude.{◌≡◌, not, [], ◌∷◌, ◌≤◌, length};
+ghost use Rattle.refusals.specs.declared.Refusal.TheVariants.{BadName};
+ghost use Rattle.refusals.specs.Refusals.{checked, refuse_if, first_of};
 ghost use Rattle.runs.specs.AnyHead.{judge_any_of};
 ghost use Rattle.runs.specs.Rows.{run_at};
+ghost use Rattle.text_bytes.specs.Text.{is_name};
 ghost use Rattle.text_pages.specs.Printing.{Wrote};
 ghost use Rattle.sheet_writer.specs.PlanSheet.{plan_top, plan_lines, PlanWritten};
 ghost use Rattle.sheet_writer.specs.AnyHead.{PlanAnyWritten};
@@ -10,7 +13,7 @@ ghost use Rattle.sheet_writer.specs.Private.{plan_most, PlanFits};
 
 use crate::Written;
 use crate::page::{answer_to, hand_out, judge_name, put_pairs, put_triples};
-use refusals::{Verdict, refused};
+use refusals::Verdict;
 use text_pages::{put_line, put_number_line};
 use walk::Answer;
 
@@ -55,11 +58,28 @@ pub fn judge_any(
     counts: &[u64],
     head: u64,
     turn: u64,
-) -> Verdict
-    ensures { result ≡ judge_any_of (run_at starts lengths aggregates numbers counts head turn) }
+) -> Result<(), Verdict>
+    ensures { result ≡ checked (judge_any_of (run_at starts lengths aggregates numbers counts head turn)) }
 {
     let lifted = runs::lift_head(head);
     runs::judge(starts, lengths, aggregates, numbers, counts, lifted, turn)
+}
+
+// 1 to 7 for a head anywhere, then 13.
+fn judge_plan(
+    name: &[u8],
+    starts: &[u64],
+    lengths: &[u64],
+    aggregates: &[u64],
+    numbers: &[u64],
+    counts: &[u64],
+    head: u64,
+    turn: u64,
+) -> Result<(), Verdict>
+    ensures { result ≡ checked (first_of (judge_any_of (run_at starts lengths aggregates numbers counts head turn) ∷ refuse_if (not (is_name name.now)) BadName ∷ [])) }
+{
+    let run = judge_any(starts, lengths, aggregates, numbers, counts, head, turn);
+    judge_name(run, false, name)
 }
 
 // The plan sheet of a run with a head anywhere.
@@ -78,23 +98,23 @@ pub fn write_plan_any(
 ) -> Written
     ensures { PlanAnyWritten name.now (run_at starts lengths aggregates numbers counts head turn) froms.now tos.now out.old result out.new }
 {
-    let run = judge_any(starts, lengths, aggregates, numbers, counts, head, turn);
-    let named = judge_name(run, false, name);
-    if refused(named) {
-        return answer_to(named, 0);
+    let judged = judge_plan(
+        name, starts, lengths, aggregates, numbers, counts, head, turn,
+    );
+    if let Err(refusal) = judged {
+        return answer_to(refusal, 0);
     }
     let mut times = [0u64; 64];
     let mut legs = [0u64; 64];
     let answer = walk::price_any(
         starts, lengths, aggregates, numbers, counts, head, turn, froms, tos, &mut times, &mut legs,
     );
-    let refusal = answer.refusal;
     let list = Verdict {
-        refusal,
+        refusal: answer.refusal,
         place: answer.place,
     };
-    if refused(list) {
-        return answer_to(list, 0);
+    if let Err(refusal) = list.told() {
+        return answer_to(refusal, 0);
     }
     let wants = numbers.len();
     let mut page = [0u8; 7644];
@@ -113,6 +133,7 @@ pub fn write_plan_any(
 }
 
 // The plan sheet of a run of 01: the head is judged by its 7, and then priced from as any.
+// Stays: as write_figures does with another text; one over a writer that is passed in names its eleven parameters in a bound and in a clause.
 pub fn write_plan(
     name: &[u8],
     starts: &[u64],
@@ -128,9 +149,8 @@ pub fn write_plan(
 ) -> Written
     ensures { PlanWritten name.now (run_at starts lengths aggregates numbers counts head turn) froms.now tos.now out.old result out.new }
 {
-    let run = runs::judge(starts, lengths, aggregates, numbers, counts, head, turn);
-    if refused(run) {
-        return answer_to(run, 0);
+    if let Err(refusal) = runs::judge(starts, lengths, aggregates, numbers, counts, head, turn) {
+        return answer_to(refusal, 0);
     }
     write_plan_any(
         name, starts, lengths, aggregates, numbers, counts, head, turn, froms, tos, out,

@@ -1,13 +1,18 @@
 // The run sheet writer.
-ghost use Rattle.std.specs.Prelude.{◌≤◌, length};
+ghost use Rattle.std.specs.Prelude.{◌≡◌, not, ◌||◌, [], ◌∷◌, ◌≤◌, length, ltb};
+ghost use Rattle.refusals.specs.declared.Refusal.TheVariants.{BadName};
+ghost use Rattle.refusals.specs.Refusals.{checked, refuse_if, first_of};
+ghost use Rattle.runs.specs.Judging.{judge_of};
 ghost use Rattle.runs.specs.Rows.{run_at};
+ghost use Rattle.text_bytes.specs.Text.{is_name};
 ghost use Rattle.text_pages.specs.Printing.{Wrote};
+ghost use Rattle.sheet_reader.specs.Sheet.{most_sheet_files};
 ghost use Rattle.sheet_writer.specs.Writing.{top_text, sheet_text, SheetWritten};
 ghost use Rattle.sheet_writer.specs.Private.{sheet_most, SheetFits};
 
 use crate::Written;
 use crate::page::{answer_to, hand_out, judge_name, put_pairs, put_triples};
-use refusals::refused;
+use refusals::Verdict;
 use sheet_reader::MOST_SHEET_FILES;
 use text_pages::{put_line, put_number_line};
 
@@ -43,6 +48,23 @@ fn put_sheet(
     put_pairs(page, want_at, b"want=", numbers, counts)
 }
 
+// 1 to 7, then 13.
+fn judge_sheet(
+    name: &[u8],
+    starts: &[u64],
+    lengths: &[u64],
+    aggregates: &[u64],
+    numbers: &[u64],
+    counts: &[u64],
+    head: u64,
+    turn: u64,
+) -> Result<(), Verdict>
+    ensures { result ≡ checked (first_of (judge_of (run_at starts lengths aggregates numbers counts head turn) ∷ refuse_if (ltb most_sheet_files (length starts.now) || not (is_name name.now)) BadName ∷ [])) }
+{
+    let run = runs::judge(starts, lengths, aggregates, numbers, counts, head, turn);
+    judge_name(run, MOST_SHEET_FILES < starts.len() as u64, name)
+}
+
 pub fn write_sheet(
     name: &[u8],
     starts: &[u64],
@@ -56,10 +78,11 @@ pub fn write_sheet(
 ) -> Written
     ensures { SheetWritten name.now (run_at starts lengths aggregates numbers counts head turn) out.old result out.new }
 {
-    let run = runs::judge(starts, lengths, aggregates, numbers, counts, head, turn);
-    let verdict = judge_name(run, MOST_SHEET_FILES < starts.len() as u64, name);
-    if refused(verdict) {
-        return answer_to(verdict, 0);
+    let judged = judge_sheet(
+        name, starts, lengths, aggregates, numbers, counts, head, turn,
+    );
+    if let Err(refusal) = judged {
+        return answer_to(refusal, 0);
     }
     let mut page = [0u8; 20683];
     let bytes = put_sheet(

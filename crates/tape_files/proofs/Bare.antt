@@ -8,13 +8,13 @@ use lib.ListN.{length}
 use Rattle.text_bytes.specs.Text.{is_text}
 use Rattle.tape_markup.specs.declared.Place.{Place}
 use Rattle.tape_files.specs.declared.values.Chars.{Chars}
-use Rattle.tape_files.specs.declared.Field.{Field}
+use Rattle.std.specs.Prelude.{Some, None, Ok, Err}
 use Rattle.tape_markup.specs.Markup.{Open, Close, Char}
 use Rattle.tape_markup.specs.Tree.{Forest, none, char, element, innermost, enclosing}
 use Rattle.tape_files.specs.Index.{flattened, chars_of, insides, under, values_at, Level, files_in}
 use Rattle.tape_markup.specs.Places.{part, PlaceIn, tokens_at, Begins, place_at, Passes}
 use Rattle.tape_files.specs.Elements.{frames_at, inside, Left, bare, ElementMet, NoElement, NamedAt, NoneNamed, ByteAt, NoByte}
-use Rattle.tape_files.specs.Values.{first_field, field_from, field_at}
+use Rattle.tape_files.specs.Values.{Field, first_field, field_from, field_at}
 use Rattle.tape_files.specs.Private.{no_chars, with_byte, chars_from}
 use Rattle.tape_markup.proofs.Meets.{begins_fewer}
 use Rattle.tape_files.proofs.Frames.{frames_first, frames_past}
@@ -56,9 +56,6 @@ pub record Sought (name text : List ℕ) (place here : Place) : Type 0 where
   pub around : Within text place here
   pub same : insides name (inside text here) ≡ insides name (inside text place)
 
-pub sought_none : (name text : List ℕ) (place : Place) → PlaceIn text place → Sought name text place place
-sought_none name text place p = record { around = within_none text place p; same = refl }
-
 module _ (name text : List ℕ) (place here : Place) (s : Sought name text place here) where
   pub sought_over : (next : Place) → NoElement text here next → NoneNamed text place name next
   unfolding insides
@@ -97,19 +94,10 @@ module _ (name text : List ℕ) (place here : Place) (s : Sought name text place
             same = sym other ∙ insides_bare name (inside text here) ∙ s.same;
           }
 
-      pub sought_less : length (tokens_at text after) < length (tokens_at text here)
-      sought_less =
-          let g = m.fewer in
-          let h = l.fewer in
-          omega arith
-
 -- Looking for the next byte of a value: what was passed over has none.
 pub record BytesLeft (text : List ℕ) (place here : Place) : Type 0 where
   pub around : Within text place here
   pub same : chars_of (inside text here) ≡ chars_of (inside text place)
-
-pub bytes_none : (text : List ℕ) (place : Place) → PlaceIn text place → BytesLeft text place place
-bytes_none text place p = record { around = within_none text place p; same = refl }
 
 module _ (text : List ℕ) (place here : Place) (p : BytesLeft text place here) where
   pub byte_met : (b : ℕ) (next : Place) → Begins (tokens_at text here) text (Char b) next → ByteAt text place b next
@@ -170,9 +158,6 @@ module _ (text : List ℕ) (place here : Place) (p : BytesLeft text place here) 
 pub record CharsLeft (text : List ℕ) (place : Place) (chars : Chars) (here : Place) : Type 0 where
   pub around : Within text place here
   pub same : chars_from chars (chars_of (inside text here)) ≡ chars_from no_chars (chars_of (inside text place))
-
-pub chars_none : (text : List ℕ) (place : Place) → PlaceIn text place → CharsLeft text place no_chars place
-chars_none text place p = record { around = within_none text place p; same = refl }
 
 module _ (text : List ℕ) (place : Place) (chars : Chars) (here : Place) (p : CharsLeft text place chars here) where
   pub chars_byte : (b : ℕ) (next : Place) (later : Chars) → ByteAt text here b next → later ≡ with_byte chars b → CharsLeft text place later next
@@ -238,18 +223,18 @@ read_less name text here next after m l =
 
 -- Fields joined: the first counts, and one that is bad spoils all.
 first_joined : (a b c : Field) → first_field (first_field a b) c ≡ first_field a (first_field b c)
-first_joined Field.Missing b c = refl
-first_joined Field.Bad b c = refl
-first_joined (Field.Value n) Field.Missing c = refl
-first_joined (Field.Value n) Field.Bad c = refl
-first_joined (Field.Value n) (Field.Value m) Field.Missing = refl
-first_joined (Field.Value n) (Field.Value m) (Field.Value k) = refl
-first_joined (Field.Value n) (Field.Value m) Field.Bad = refl
+first_joined (Ok None) b c = refl
+first_joined (Err bad) b c = refl
+first_joined (Ok (Some n)) (Ok None) c = refl
+first_joined (Ok (Some n)) (Err bad) c = refl
+first_joined (Ok (Some n)) (Ok (Some m)) (Ok None) = refl
+first_joined (Ok (Some n)) (Ok (Some m)) (Ok (Some k)) = refl
+first_joined (Ok (Some n)) (Ok (Some m)) (Err bad) = refl
 
-first_last : (a : Field) → first_field a Field.Missing ≡ a
-first_last Field.Missing = refl
-first_last (Field.Value n) = refl
-first_last Field.Bad = refl
+first_last : (a : Field) → first_field a (Ok None) ≡ a
+first_last (Ok None) = refl
+first_last (Ok (Some n)) = refl
+first_last (Err bad) = refl
 
 module _ (form : List ℕ → Field) where
   -- Values behind a field that is known.
@@ -278,13 +263,13 @@ module _ (form : List ℕ → Field) (path : List (List ℕ)) where
   all_said known [] = refl
   all_said known (f ∷ l) =
       all_said (field_step form path known f) l
-      ∙ ap (λ (k : Field). field_from form k (map chars_of (flattened (map (under path) l)))) (from_known form known Field.Missing (map chars_of (under path f)) ∙ ap (λ (k : Field). field_from form k (map chars_of (under path f))) (first_last known))
+      ∙ ap (λ (k : Field). field_from form k (map chars_of (flattened (map (under path) l)))) (from_known form known (Ok None) (map chars_of (under path f)) ∙ ap (λ (k : Field). field_from form k (map chars_of (under path f))) (first_last known))
       ∙ sym (fields_append form known (map chars_of (under path f)) (map chars_of (flattened (map (under path) l))))
       ∙ ap (field_from form known) (sym (chars_append (under path f) (flattened (map (under path) l))))
 
-  pub field_said : (name : List ℕ) (held : Forest) → folded (field_step form path) Field.Missing (insides name held) ≡ field_at form (name ∷ path) held
+  pub field_said : (name : List ℕ) (held : Forest) → folded (field_step form path) (Ok None) (insides name held) ≡ field_at form (name ∷ path) held
   unfolding field_at values_at under
-  field_said name held = all_said Field.Missing (insides name held)
+  field_said name held = all_said (Ok None) (insides name held)
 
 -- An element's own value.
 pub value_said : (form : List ℕ → Field) (held : Forest) → field_at form [] held ≡ form (chars_of held)

@@ -1,21 +1,20 @@
 -- An extent element by element: what is said by those left, with what is known, is what all say; and that is each field by its name.
-use Prim.Native.Nat.{ℕ, ◌≤◌}
+use Prim.Native.Nat.{ℕ}
 use mathlib.Core.Path.{◌≡◌, refl, ap, sym, ◌∙◌}
 use mathlib.Core.Bool.{Bool, true, false, cond}
 use mathlib.Core.List.{List, [], ◌∷◌, map}
 use native.Mathlib.Omega.{arith}
-use lib.ListN.{length}
 use Rattle.text_bytes.specs.Text.{is_text}
 use Rattle.tape_markup.specs.declared.Place.{Place}
-use Rattle.tape_markup.specs.Places.{part, PlaceIn, tokens_at}
+use Rattle.tape_markup.specs.Places.{part}
 use Rattle.tape_markup.specs.Tree.{Forest, none, char, element, innermost, enclosing}
-use Rattle.tape_files.specs.declared.Field.{Field}
+use Rattle.std.specs.Prelude.{None, Ok}
 use Rattle.tape_files.specs.declared.ExtentSaid.{ExtentSaid}
 use Rattle.tape_files.specs.Index.{chars_of, insides, values_at, partition_name, start_block_name, byte_offset_name, byte_count_name}
-use Rattle.tape_files.specs.Elements.{frames_at, inside, Left, bare, ElementMet, NoElement}
-use Rattle.tape_files.specs.Values.{number_field, letter_field, first_field, field_from, field_at, extent_of}
+use Rattle.tape_files.specs.Elements.{inside, Left, bare, ElementMet, NoElement}
+use Rattle.tape_files.specs.Values.{Field, number_field, letter_field, first_field, field_from, field_at, extent_of}
 use Rattle.tape_files.specs.Private.{joined_if, nothing_said, said_with, said_from}
-use Rattle.tape_files.proofs.Bare.{Within, within_none, under_last}
+use Rattle.tape_files.proofs.Bare.{Within, under_last}
 
 -- One field: the values of its name alone.
 module _ (form : List ℕ → Field) (wanted : List ℕ) where
@@ -35,9 +34,9 @@ module _ (form : List ℕ → Field) (wanted : List ℕ) where
       by_test true later = later (first_field known (form (chars_of held)))
       by_test false later = later known
 
-  field_over : (f : Forest) → fieldOver Field.Missing f ≡ field_at form (wanted ∷ []) f
+  field_over : (f : Forest) → fieldOver (Ok None) f ≡ field_at form (wanted ∷ []) f
   unfolding field_at values_at
-  field_over f = over_named Field.Missing f ∙ ap (λ (l : List Forest). field_from form Field.Missing (map chars_of l)) (sym (under_last wanted f))
+  field_over f = over_named (Ok None) f ∙ ap (λ (l : List Forest). field_from form (Ok None) (map chars_of l)) (sym (under_last wanted f))
 
 -- All four of them together.
 abbrev fields_over : ExtentSaid → Forest → ExtentSaid
@@ -75,9 +74,6 @@ said_bare said (element name held rest) = refl
 pub record ExtentLeft (text : List ℕ) (place : Place) (said : ExtentSaid) (here : Place) : Type 0 where
   pub around : Within text place here
   pub same : said_from said (inside text here) ≡ said_from nothing_said (inside text place)
-
-pub extent_none : (text : List ℕ) (place : Place) → PlaceIn text place → ExtentLeft text place nothing_said place
-extent_none text place p = record { around = within_none text place p; same = refl }
 
 module _ (text : List ℕ) (place : Place) (said : ExtentSaid) (here : Place) (p : ExtentLeft text place said here) where
   pub extent_over : (next : Place) → NoElement text here next → (said ≡ extent_of (inside text place)) × Left text place next

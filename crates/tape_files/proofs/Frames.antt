@@ -1,5 +1,5 @@
 -- What is left of the elements around a place: the next element in the one around it, and past the end of that one.
-use Prim.Native.Nat.{ℕ, zero, suc, ◌+◌, ◌-◌, ◌≤◌, ◌<◌}
+use Prim.Native.Nat.{ℕ, zero, suc, ◌+◌, ◌-◌, ◌≤◌}
 use mathlib.Core.Path.{◌≡◌, refl, ap, sym, ◌∙◌}
 use mathlib.Core.List.{List, [], ◌∷◌, ◌++◌, map}
 use native.Mathlib.Omega.{arith}
@@ -12,6 +12,7 @@ use Rattle.tape_markup.specs.Steps.{behind_text}
 use Rattle.tape_markup.proofs.Meets.{begins_fewer}
 use Rattle.tape_markup.proofs.Texts.{text_told, told_fewer, frames_chars}
 use Rattle.tape_markup.specs.Places.{part, NameIn, PlaceIn, place_at, tokens_at, Begins, Passes}
+use Rattle.std.specs.Prelude.{Result, Ok, Err}
 use Rattle.tape_files.specs.declared.Child.{Child}
 use Rattle.tape_files.specs.Elements.{frames_at, inside, Left, bare, ElementMet, NoElement, ChildMet}
 
@@ -223,8 +224,8 @@ module _ (text : List ℕ) (place here : Place) (w : PlaceIn text place) (e : he
   left_behind next l =
       record { outer = l.outer ∙ sym behind.outer; within = l.within; fewer = omega (arith, l.fewer, behind.fewer) }
 
-  pub child_behind : (child : Child) → ChildMet text here child → ChildMet text place child
-  child_behind (Child.Element from to next) m =
+  pub child_behind : (child : Result Child Place) → ChildMet text here child → ChildMet text place child
+  child_behind (Ok child) m =
       record {
         name = m.name;
         within = m.within;
@@ -232,4 +233,4 @@ module _ (text : List ℕ) (place here : Place) (w : PlaceIn text place) (e : he
         outer = behind.outer ∙ m.outer;
         fewer = omega (arith, m.fewer, behind.fewer);
       }
-  child_behind (Child.Done next) m = record { none = behind.held ∙ m.none; left = left_behind next m.left }
+  child_behind (Err next) m = record { none = behind.held ∙ m.none; left = left_behind next m.left }

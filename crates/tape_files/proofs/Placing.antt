@@ -1,16 +1,14 @@
 -- A place that lies in a text is taken for itself, and whatever a place is taken for lies in it. A part of a text is the part of it that is there.
-use Prim.Native.Nat.{ℕ, ◌+◌, ◌-◌, ◌≤◌, min}
-use mathlib.Core.Path.{◌≡◌, refl, ap, sym, ◌∙◌, subst}
+use Prim.Native.Nat.{ℕ, ◌+◌}
+use mathlib.Core.Path.{◌≡◌, refl, subst}
 use mathlib.Core.Bool.{Bool, true, false, cond}
-use mathlib.Core.List.{List, []}
+use mathlib.Core.List.{List}
 use native.Mathlib.Omega.{arith}
-use native.Mathlib.Decide.{dec_lt}
-use lib.ListN.{length, take, drop, length-drop, drop_of_length-le}
-use lib.Seq.{take_all, take-nil}
+use lib.ListN.{length}
 use borrow.Author.Tests.{le-leb, lt-ltb, leb-true, ltb-true}
 use Rattle.text_bytes.proofs.Bytes.{and_true_both}
 use Rattle.tape_markup.specs.declared.Place.{Place}
-use Rattle.tape_markup.specs.Places.{part, NameIn, PlaceIn}
+use Rattle.tape_markup.specs.Places.{PlaceIn}
 use Rattle.tape_files.specs.declared.ExtentSaid.{ExtentSaid}
 use Rattle.tape_files.specs.Elements.{lies_in, taken_for, inside, Left, ElementMet, NoElement, NamedAt, NoneNamed}
 use Rattle.tape_files.specs.Values.{extent_of}
@@ -63,27 +61,3 @@ module _ (text : List ℕ) (place : Place) (p : PlaceIn text place) where
 
   pub extent_here : (next : Place) → Left text (taken_for text place) next → (e : ExtentSaid) → e ≡ extent_of (inside text (taken_for text place)) → e ≡ extent_of (inside text place)
   extent_here next l e = subst (λ (x : Place). e ≡ extent_of (inside text x)) same_place
-
-nothing_taken : (n : ℕ) (l : List ℕ) → n ≡ 0 → take n l ≡ []
-nothing_taken n l e = rw e
-
--- From the smaller of two positions on, or to the text's end: nothing else was there.
-pub part_there : (text : List ℕ) (from to : ℕ) (start end : ℕ) → end ≡ min to (length text) → start ≡ min from end → part start end text ≡ part from to text
-part_there text from to start end e s =
-    elim (dec_lt from end) [
-      | yes before ↦ elim (dec_lt (length text) to) [
-        | yes long ↦
-            let same : start ≡ from = omega arith in
-            let some : length (drop from text) ≤ end - from = rw (length-drop from text) (omega arith) in
-            let more : length (drop from text) ≤ to - from = rw (length-drop from text) (omega arith) in
-            rw same (take_all (end - from) (drop from text) some ∙ sym (take_all (to - from) (drop from text) more))
-        | no short ↦
-            let same : start ≡ from = omega arith in
-            let over : end ≡ to = omega arith in
-            rw (same, over)
-      ]
-      | no behind ↦ nothing_taken (end - start) (drop start text) (omega arith) ∙ sym (elim (dec_lt from (length text)) [
-        | yes there ↦ nothing_taken (to - from) (drop from text) (omega arith)
-        | no past ↦ ap (take (to - from)) (drop_of_length-le text {i = from} (omega arith)) ∙ take-nil (to - from)
-      ])
-    ]

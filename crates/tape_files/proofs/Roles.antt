@@ -6,22 +6,21 @@ use mathlib.Core.List.{List}
 use native.Mathlib.Omega.{arith}
 use borrow.Author.Tests.{eq-eqb, ne_eqb}
 use Rattle.text_bytes.specs.Text.{is_text}
+use Rattle.std.specs.Prelude.{Result, Ok, Err}
+use Rattle.std.specs.Result.{is_ok}
 use Rattle.tape_markup.specs.declared.Place.{Place}
 use Rattle.tape_files.specs.declared.Use.{Use}
 use Rattle.tape_markup.specs.Tree.{tree_of}
 use Rattle.tape_markup.specs.Places.{tokens_at}
 use Rattle.tape_files.specs.Index.{is_none, insides, index_name, directory_name, contents_name, Level, in_directory, in_contents, Role, holds, other, role_of}
-use Rattle.tape_files.specs.Elements.{frames_at, NamedAt, NoneNamed, level_at, RoleFound}
+use Rattle.tape_files.specs.Elements.{frames_at, NamedMet, level_at, RoleFound}
 use Rattle.tape_files.specs.Private.{enter_if}
 
 -- Whether there is an outermost `ltfsindex`.
-pub index_found : (text : List ℕ) (next : Place) → NamedAt text (Place.Text 0) index_name next → true ≡ not (is_none (insides index_name (tree_of text)))
+pub index_met : (text : List ℕ) (r : Result Place Place) → NamedMet index_name text (Place.Text 0) r → is_ok r ≡ not (is_none (insides index_name (tree_of text)))
 unfolding frames_at tokens_at tree_of
-index_found text next m = rw m.here
-
-pub index_nowhere : (text : List ℕ) (next : Place) → NoneNamed text (Place.Text 0) index_name next → false ≡ not (is_none (insides index_name (tree_of text)))
-unfolding frames_at tokens_at tree_of
-index_nowhere text next n = rw n.none
+index_met text (Ok next) m = rw m.here
+index_met text (Err next) n = rw n.none
 
 -- What a name means so deep: directories and contents take turns.
 even_level : (depth : ℕ) → (depth ≡ 0 → ⊥) → (depth ≡ 1 → ⊥) → depth % 2 ≡ 0 → level_at depth ≡ in_directory

@@ -1,9 +1,9 @@
 -- The files by path are the files of the tape table, in the same order.
 use Prim.Native.Nat.{ℕ}
 use mathlib.Core.Path.{◌≡◌, refl, ap, ◌∙◌}
-use mathlib.Core.List.{List, [], ◌∷◌, ◌++◌, map}
+use mathlib.Core.List.{List, [], ◌∷◌, ◌++◌}
 use Rattle.tape_markup.specs.Tree.{Forest, none, char, element}
-use Rattle.tape_files.specs.Index.{Level, outside, Role, holds, file, other, role_of, files_of_role, files_in, index_files, extents_of}
+use Rattle.tape_files.specs.Index.{Level, outside, Role, holds, file, other, role_of, files_of_role, files_in, index_files}
 use Rattle.tape_files.specs.NamedFiles.{NamedFile, named_of_role, named_in, named_files}
 use Rattle.tape_files.specs.Promises.{extents_of_all, FilesAreTheTable}
 

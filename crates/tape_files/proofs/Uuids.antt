@@ -1,21 +1,23 @@
 -- The first volume that a text says, found outermost element by outermost element; and what two texts say, byte by byte.
-use Prim.Native.Nat.{ℕ, suc, ◌≤◌, ◌<◌}
+use Prim.Native.Nat.{ℕ, suc}
 use mathlib.Core.Path.{◌≡◌, refl, ap, sym, ◌∙◌}
-use mathlib.Core.Bool.{Bool, true, false, not, ◌&&◌, and-false}
+use mathlib.Core.Bool.{Bool, false, not, and-false}
 use mathlib.Core.List.{List, [], ◌∷◌, ◌++◌, map}
 use native.Mathlib.Omega.{arith}
 use lib.ListN.{length}
-use lib.Dec.{eqb, eqb-zero-suc, eqb-suc-zero, eqb-suc-suc}
+use lib.Dec.{eqb, eqb-zero-suc, eqb-suc-suc}
 use borrow.Author.Tests.{eq-eqb, ne_eqb}
 use Rattle.text_bytes.specs.Text.{starts_with, is_text}
 use Rattle.tape_markup.specs.declared.Place.{Place}
 use Rattle.tape_markup.specs.Places.{PlaceIn, tokens_at}
 use Rattle.tape_markup.specs.Tree.{Forest, innermost, enclosing, tree_of}
+use Rattle.std.specs.Prelude.{Result, Ok, Err}
+use Rattle.std.specs.Result.{is_err}
 use Rattle.tape_files.specs.declared.NextByte.{NextByte}
-use Rattle.tape_files.specs.Index.{chars_of, insides, under, flattened, values_at, label_name, index_name, first_value, is_none}
-use Rattle.tape_files.specs.Elements.{frames_at, inside, Left, NamedAt, NoneNamed, ByteAt, NoByte, ByteMet}
-use Rattle.tape_files.specs.Volumes.{volume_name, volumes_in, differ, other_volume}
-use Rattle.tape_files.specs.Private.{VolumeAt, is_over}
+use Rattle.tape_files.specs.Index.{chars_of, insides, under, flattened, values_at, label_name, index_name}
+use Rattle.tape_files.specs.Elements.{frames_at, inside, NamedAt, NoneNamed, ByteAt, NoByte, ByteMet}
+use Rattle.tape_files.specs.Volumes.{volume_name, volumes_in, other_volume}
+use Rattle.tape_files.specs.Private.{VolumeAt}
 use Rattle.tape_files.proofs.Bare.{Within, within_none, under_last}
 
 -- Elements of a name, at whose ends other paths go on.
@@ -71,18 +73,9 @@ module _ (root text : List ℕ) (here : Place) (p : VolumesLeft root text here) 
           same = ap (λ (k : List Forest). flattened (map (under (volume_name ∷ [])) (insides root (innermost k)))) n.left.outer ∙ sym none ∙ p.same;
         }
 
-    pub volumes_less : (next : Place) → NoneNamed text inner volume_name next → length (tokens_at text next) < length (tokens_at text here)
-    volumes_less next n =
-        let g = m.fewer in
-        let h = n.left.fewer in
-        omega arith
-
 -- Two texts, byte by byte.
 nothing_more : (b : ℕ) (y : List ℕ) → is_text [] (b ∷ y) ≡ false
 nothing_more b y = rw (eqb-zero-suc (length y))
-
-something_more : (a : ℕ) (x : List ℕ) → is_text (a ∷ x) [] ≡ false
-something_more a x = rw (eqb-suc-zero (length x))
 
 same_first : (a b : ℕ) (x y : List ℕ) → a ≡ b → is_text (a ∷ x) (b ∷ y) ≡ is_text x y
 unfolding starts_with
@@ -98,23 +91,16 @@ pub record Alike (one other : List ℕ) (place start here there : Place) : Type 
   pub second : PlaceIn other there
   pub same : is_text (chars_of (inside one here)) (chars_of (inside other there)) ≡ is_text (chars_of (inside one place)) (chars_of (inside other start))
 
-pub alike_none : (one other : List ℕ) (place start : Place) → PlaceIn one place → PlaceIn other start → Alike one other place start place start
-alike_none one other place start p q = record { first = p; second = q; same = refl }
-
 module _ (one other : List ℕ) (place start here there : Place) (p : Alike one other place start here there) where
   abbrev whole : Bool
   whole = is_text (chars_of (inside one place)) (chars_of (inside other start))
 
-  pub alike_over : (next : Place) → NoByte one here next → (r : NextByte) → ByteMet other there r → is_over r ≡ whole
+  pub alike_over : (next : Place) → NoByte one here next → (r : Result NextByte Place) → ByteMet other there r → is_err r ≡ whole
   unfolding starts_with
-  alike_over next n (NextByte.Byte b after) m = sym (ap (λ (l : List ℕ). is_text l (chars_of (inside other there))) n.none ∙ ap (is_text []) m.here ∙ nothing_more b (chars_of (inside other after))) ∙ p.same
-  alike_over next n (NextByte.Over after) m = sym (ap (λ (l : List ℕ). is_text l (chars_of (inside other there))) n.none ∙ ap (is_text []) m.none) ∙ p.same
+  alike_over next n (Ok met) m = sym (ap (λ (l : List ℕ). is_text l (chars_of (inside other there))) n.none ∙ ap (is_text []) m.here ∙ nothing_more met.byte (chars_of (inside other met.next))) ∙ p.same
+  alike_over next n (Err after) m = sym (ap (λ (l : List ℕ). is_text l (chars_of (inside other there))) n.none ∙ ap (is_text []) m.none) ∙ p.same
 
   module _ (b : ℕ) (next : Place) (m : ByteAt one here b next) where
-    pub alike_short : (after : Place) → NoByte other there after → false ≡ whole
-    unfolding starts_with
-    alike_short after n = sym (ap (λ (l : List ℕ). is_text l (chars_of (inside other there))) m.here ∙ ap (is_text (b ∷ chars_of (inside one next))) n.none ∙ something_more b (chars_of (inside one next))) ∙ p.same
-
     module _ (c : ℕ) (after : Place) (k : ByteAt other there c after) where
       both : is_text (b ∷ chars_of (inside one next)) (c ∷ chars_of (inside other after)) ≡ whole
       both = sym (ap (λ (l : List ℕ). is_text l (chars_of (inside other there))) m.here ∙ ap (is_text (b ∷ chars_of (inside one next))) k.here) ∙ p.same

@@ -1,8 +1,7 @@
 -- A reader that goes from element to element: where it stands, what is left of the elements around it, and what it meets.
-use Rattle.std.specs.Prelude.{ℕ, suc, zero, ◌+◌, ◌%◌, ◌≤◌, ◌<◌, ◌≡◌, Bool, cond, ◌&&◌, List, [], ◌∷◌, length, eqb, leb, ltb}
+use Rattle.std.specs.Prelude.{ℕ, suc, zero, ◌+◌, ◌%◌, ◌≤◌, ◌<◌, ◌≡◌, Bool, cond, ◌&&◌, Result, Ok, Err, List, [], ◌∷◌, length, eqb, leb, ltb}
 use Rattle.tape_markup.specs.declared.Place.{Place}
 use Rattle.tape_files.specs.declared.Child.{Child}
-use Rattle.tape_files.specs.declared.Named.{Named}
 use Rattle.tape_files.specs.declared.NextByte.{NextByte}
 use Rattle.tape_files.specs.declared.Use.{Use}
 use Rattle.tape_markup.specs.Places.{part, NameIn, PlaceIn, tokens_at}
@@ -49,9 +48,9 @@ pub record NoElement (text : List ℕ) (place next : Place) : Type 0 where
   pub none : bare (inside text place) ≡ none
   pub left : Left text place next
 
-abbrev pub ChildMet : List ℕ → Place → Child → Type 0
-ChildMet text place (Child.Element from to next) = ElementMet text place from to next
-ChildMet text place (Child.Done next) = NoElement text place next
+abbrev pub ChildMet : List ℕ → Place → Result Child Place → Type 0
+ChildMet text place (Ok child) = ElementMet text place child.from child.to child.next
+ChildMet text place (Err next) = NoElement text place next
 
 -- An element of a name, met behind others that were passed over; or there is none.
 pub record NamedAt (text : List ℕ) (place : Place) (name : List ℕ) (next : Place) : Type 0 where
@@ -64,9 +63,9 @@ pub record NoneNamed (text : List ℕ) (place : Place) (name : List ℕ) (next :
   pub none : insides name (inside text place) ≡ []
   pub left : Left text place next
 
-abbrev pub NamedMet : List ℕ → List ℕ → Place → Named → Type 0
-NamedMet name text place (Named.At next) = NamedAt text place name next
-NamedMet name text place (Named.Done next) = NoneNamed text place name next
+abbrev pub NamedMet : List ℕ → List ℕ → Place → Result Place Place → Type 0
+NamedMet name text place (Ok next) = NamedAt text place name next
+NamedMet name text place (Err next) = NoneNamed text place name next
 
 -- The next byte directly in an element, behind others that were passed over; or there is none.
 pub record ByteAt (text : List ℕ) (place : Place) (byte : ℕ) (next : Place) : Type 0 where
@@ -79,9 +78,9 @@ pub record NoByte (text : List ℕ) (place next : Place) : Type 0 where
   pub none : chars_of (inside text place) ≡ []
   pub left : Left text place next
 
-abbrev pub ByteMet : List ℕ → Place → NextByte → Type 0
-ByteMet text place (NextByte.Byte byte next) = ByteAt text place byte next
-ByteMet text place (NextByte.Over next) = NoByte text place next
+abbrev pub ByteMet : List ℕ → Place → Result NextByte Place → Type 0
+ByteMet text place (Ok met) = ByteAt text place met.byte met.next
+ByteMet text place (Err next) = NoByte text place next
 
 -- How deep means where: outside of all, in the index, then directories and contents in turn.
 unfoldable pub level_at : ℕ → Level

@@ -1,28 +1,21 @@
 -- For the contracts of private functions alone: the bytes of a value, the elements of an extent, and volumes. No public contract cites this file.
-use Rattle.std.specs.Prelude.{ℕ, ◌+◌, ◌-◌, ◌*◌, ◌^◌, ◌≡◌, Bool, true, false, cond, ◌&&◌, List, [], ◌∷◌, eqb, ltb}
+use Rattle.std.specs.Prelude.{ℕ, ◌+◌, ◌-◌, ◌*◌, ◌^◌, ◌≡◌, Bool, true, false, cond, ◌&&◌, Option, Some, None, is_some, unwrap_or, Result, Ok, Err, List, [], ◌∷◌, eqb, ltb}
 use Prim.Native.Char.{code}
 use Rattle.text_bytes.specs.Text.{is_text, is_digit}
 use Rattle.tape_markup.specs.declared.Place.{Place}
 use Rattle.tape_markup.specs.Places.{PlaceIn}
 use Rattle.tape_markup.specs.Tree.{Forest, none, char, element, tree_of}
 use Rattle.tape_files.specs.declared.ExtentSaid.{ExtentSaid}
-use Rattle.tape_files.specs.declared.Field.{Field}
-use Rattle.tape_files.specs.declared.Named.{Named}
-use Rattle.tape_files.specs.declared.NextByte.{NextByte}
 use Rattle.tape_files.specs.declared.Use.{Use}
 use Rattle.tape_files.specs.declared.values.Chars.{Chars}
-use Rattle.tape_files.specs.declared.values.Grown.{Grown}
 use Rattle.tape_files.specs.Index.{chars_of, partition_name, start_block_name, byte_offset_name, byte_count_name}
 use Rattle.tape_files.specs.Elements.{inside}
 use Rattle.tape_files.specs.Volumes.{volumes_in}
-use Rattle.tape_files.specs.Values.{number_field, letter_field, first_field}
+use Rattle.tape_files.specs.Values.{Field, number_field, letter_field, first_field}
 
 -- What is known before the first byte.
 abbrev pub no_chars : Chars
-no_chars = record { some = false; more = false; first = 0; good = false; value = 0 }
-
-abbrev pub may_follow : Chars → Bool
-may_follow chars = cond chars.some (cond (eqb chars.first (code "0")) false chars.good) true
+no_chars = record { first = None; more = false; value = None }
 
 -- The value of a byte that is a digit.
 abbrev pub digit_of : ℕ → ℕ
@@ -31,18 +24,21 @@ digit_of byte = byte - code "0"
 abbrev pub grows : ℕ → ℕ → Bool
 grows value byte = is_digit byte && ltb (value * 10 + digit_of byte) (2 ^ 64)
 
-abbrev pub GrownTo : Bool → ℕ → Grown → Type 0
-GrownTo good number (Grown.To n) = (good ≡ true) × (n ≡ number)
-GrownTo good number Grown.No = good ≡ false
+abbrev pub grown : ℕ → ℕ → Option ℕ
+grown value byte = cond (grows value byte) (Some (value * 10 + digit_of byte)) None
+
+-- The number with one byte more: the first begins it, and nothing follows a leading zero.
+abbrev pub number_with : Option ℕ → Option ℕ → ℕ → Option ℕ
+number_with None value byte = grown 0 byte
+number_with (Some first) None byte = None
+number_with (Some first) (Some value) byte = cond (eqb first (code "0")) None (grown value byte)
 
 unfoldable pub with_byte : Chars → ℕ → Chars
 with_byte chars byte =
     record {
-      some = true;
-      more = chars.some;
-      first = cond chars.some chars.first byte;
-      good = may_follow chars && grows chars.value byte;
-      value = cond (may_follow chars && grows chars.value byte) (chars.value * 10 + digit_of byte) 0;
+      first = Some (unwrap_or chars.first byte);
+      more = is_some chars.first;
+      value = number_with chars.first chars.value byte;
     }
 
 unfoldable pub chars_from : Chars → List ℕ → Chars
@@ -58,7 +54,7 @@ abbrev pub joined_if : Bool → Field → Field → Field
 joined_if named field later = cond named (first_field field later) field
 
 abbrev pub nothing_said : ExtentSaid
-nothing_said = record { partition = Field.Missing; block = Field.Missing; offset = Field.Missing; count = Field.Missing }
+nothing_said = record { partition = Ok None; block = Ok None; offset = Ok None; count = Ok None }
 
 abbrev pub said_with : ExtentSaid → List ℕ → Field → Field → ExtentSaid
 said_with said name letter number =
@@ -80,10 +76,6 @@ pub record VolumeAt (root text : List ℕ) (next : Place) : Type 0 where
   pub others : List (List ℕ)
   pub here : volumes_in root (tree_of text) ≡ chars_of (inside text next) ∷ others
 
-abbrev pub VolumeMet : List ℕ → List ℕ → Named → Type 0
-VolumeMet root text (Named.At next) = VolumeAt root text next
-VolumeMet root text (Named.Done next) = volumes_in root (tree_of text) ≡ []
-
-abbrev pub is_over : NextByte → Bool
-is_over (NextByte.Byte byte next) = false
-is_over (NextByte.Over next) = true
+abbrev pub VolumeMet : List ℕ → List ℕ → Result Place Place → Type 0
+VolumeMet root text (Ok next) = VolumeAt root text next
+VolumeMet root text (Err next) = volumes_in root (tree_of text) ≡ []

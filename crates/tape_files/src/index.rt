@@ -9,7 +9,7 @@ ghost use Rattle.tape_files.specs.Private.{enter_if, joined_if, said_with};
 
 use crate::elements::{child_from, is_named, named_from};
 use crate::values::{first_field, is_value, read_value};
-use crate::{Child, ExtentRead, ExtentSaid, Field, Named, Use};
+use crate::{ExtentRead, ExtentSaid, Field, Use};
 use tape_markup::Place;
 
 // A field with what one element more says, where that has the field's name.
@@ -17,9 +17,10 @@ fn joined_if(same: bool, field: Field, later: Field) -> Field
     ensures { result ≡ joined_if same field later }
 {
     if same {
-        return first_field(field, later);
+        first_field(field, later)
+    } else {
+        field
     }
-    field
 }
 
 // An extent with what one element more says, as a letter and as a number.
@@ -33,10 +34,12 @@ fn said_with(
 ) -> ExtentSaid
     ensures { result ≡ said_with said (part from to text.now) letter number }
 {
-    let partition = said.partition;
-    let block = said.block;
-    let offset = said.offset;
-    let count = said.count;
+    let ExtentSaid {
+        partition,
+        block,
+        offset,
+        count,
+    } = said;
     ExtentSaid {
         partition: joined_if(is_named(text, from, to, b"partition"), partition, letter),
         block: joined_if(is_named(text, from, to, b"startblock"), block, number),
@@ -51,45 +54,43 @@ pub(crate) fn extent_from(text: &[u8], place: Place) -> ExtentRead
     ensures { (result.extent ≡ extent_of (inside text.now place)) × Left text.now place result.next }
 {
     let mut extent = ExtentSaid {
-        partition: Field::Missing,
-        block: Field::Missing,
-        offset: Field::Missing,
-        count: Field::Missing,
+        partition: Ok(None),
+        block: Ok(None),
+        offset: Ok(None),
+        count: Ok(None),
     };
     let mut here = place;
+    // Stays: `while let` would drop the place behind the last of them, which is part of the answer.
     loop {
-        let child = child_from(text, here);
-        match child {
-            Child::Done(next) => return ExtentRead { extent, next },
-            Child::Element { from, to, next } => {
-                let read = read_value(text, next);
-                let letter = read.letter;
-                let number = read.number;
-                extent = said_with(extent, text, from, to, letter, number);
+        match child_from(text, here) {
+            Ok(child) => {
+                let read = read_value(text, child.next);
+                extent = said_with(extent, text, child.from, child.to, read.letter, read.number);
                 here = read.next;
             }
+            Err(next) => return ExtentRead { extent, next },
         }
     }
 }
 
 // Whether all that an extent needs has its form.
+#[tactic(auto, unfolding(crate::specs::Values::extent_is_good))]
 pub fn extent_is_good(extent: ExtentSaid) -> bool
     ensures { result ≡ extent_is_good extent }
 {
-    let partition = extent.partition;
-    let block = extent.block;
-    let offset = extent.offset;
-    let count = extent.count;
-    is_value(partition) & is_value(block) & is_value(offset) & is_value(count)
+    let ExtentSaid {
+        partition,
+        block,
+        offset,
+        count,
+    } = extent;
+    is_value(partition) && is_value(block) && is_value(offset) && is_value(count)
 }
 
 fn enter_if(named: bool) -> Use
     ensures { result ≡ enter_if named }
 {
-    if named {
-        return Use::Enter;
-    }
-    Use::Skip
+    if named { Use::Enter } else { Use::Skip }
 }
 
 // What a name means in the contents of a directory.
@@ -125,9 +126,5 @@ pub fn role_at(text: &[u8], from: usize, to: usize, depth: usize) -> Use
 pub fn has_index(text: &[u8]) -> bool
     ensures { result ≡ not (is_none (insides index_name (tree_of text.now))) }
 {
-    let met = named_from(text, Place::Text(0), b"ltfsindex");
-    match met {
-        Named::At(_) => true,
-        Named::Done(_) => false,
-    }
+    named_from(text, Place::Text(0), b"ltfsindex").is_ok()
 }

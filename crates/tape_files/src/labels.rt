@@ -8,7 +8,7 @@ ghost use Rattle.tape_files.specs.Values.{letter_field, field_at, label_of};
 
 use crate::elements::named_from;
 use crate::values::{first_field, read_field};
-use crate::{Field, Label, Named};
+use crate::{Field, Label};
 use tape_markup::Place;
 
 #[derive(Clone, Copy)]
@@ -22,18 +22,17 @@ fn read_partitions(text: &[u8], place: Place) -> PartitionRead
     requires { PlaceIn text.now place }
     ensures { (result.partition ≡ field_at letter_field (partitions_name ∷ data_name ∷ []) (inside text.now place)) × Left text.now place result.next }
 {
-    let mut partition = Field::Missing;
+    let mut partition = Ok(None);
     let mut here = place;
+    // Stays: `while let` would drop the place behind the last of them, which is part of the answer.
     loop {
-        let met = named_from(text, here, b"partitions");
-        match met {
-            Named::Done(next) => return PartitionRead { partition, next },
-            Named::At(inner) => {
+        match named_from(text, here, b"partitions") {
+            Ok(inner) => {
                 let read = read_field(text, inner, b"data");
-                let letter = read.letter;
-                partition = first_field(partition, letter);
+                partition = first_field(partition, read.letter);
                 here = read.next;
             }
+            Err(next) => return PartitionRead { partition, next },
         }
     }
 }
@@ -41,22 +40,15 @@ fn read_partitions(text: &[u8], place: Place) -> PartitionRead
 pub fn read_label(text: &[u8]) -> Label
     ensures { result ≡ label_of (tree_of text.now) }
 {
-    let mut size = Field::Missing;
-    let mut partition = Field::Missing;
+    let mut size = Ok(None);
+    let mut partition = Ok(None);
     let mut here = Place::Text(0);
-    loop {
-        let met = named_from(text, here, b"ltfslabel");
-        match met {
-            Named::Done(_) => return Label { size, partition },
-            Named::At(inner) => {
-                let sizes = read_field(text, inner, b"blocksize");
-                let number = sizes.number;
-                let partitions = read_partitions(text, inner);
-                let letter = partitions.partition;
-                size = first_field(size, number);
-                partition = first_field(partition, letter);
-                here = partitions.next;
-            }
-        }
+    while let Ok(inner) = named_from(text, here, b"ltfslabel") {
+        let sizes = read_field(text, inner, b"blocksize");
+        let partitions = read_partitions(text, inner);
+        size = first_field(size, sizes.number);
+        partition = first_field(partition, partitions.partition);
+        here = partitions.next;
     }
+    Label { size, partition }
 }

@@ -18,34 +18,28 @@ use tape_markup::Place;
 pub use values::{is_value, value_in};
 pub use volumes::other_volume;
 
-// An element with its name and where its inside begins; or none is left, and the reader is past the end.
+// An element: its name is the part of the text between two positions, and its inside begins at a place. Where none is left in the element
+// that a reader stands in, it is past the end of that one: an `Err` of that place, here and below.
 #[derive(Clone, Copy)]
-pub enum Child {
-    Element { from: usize, to: usize, next: Place },
-    Done(Place),
+pub struct Child {
+    pub from: usize,
+    pub to: usize,
+    pub next: Place,
 }
 
-// Where the inside of an element of a name begins; or none is left, and the reader is past the end.
+// A byte directly in the element that the reader stands in, and where the reader stands behind it.
 #[derive(Clone, Copy)]
-pub enum Named {
-    At(Place),
-    Done(Place),
+pub struct NextByte {
+    pub byte: u8,
+    pub next: Place,
 }
 
-// A byte directly in the element that the reader stands in, and where the reader stands behind it; or none is left, and the reader is past the end.
+// A value that has not its form.
 #[derive(Clone, Copy)]
-pub enum NextByte {
-    Byte { byte: u8, next: Place },
-    Over(Place),
-}
+pub struct BadValue;
 
-// What the elements of one name say: the first counts, and one that is bad spoils all.
-#[derive(Clone, Copy)]
-pub enum Field {
-    Missing,
-    Value(u64),
-    Bad,
-}
+// What the elements of one name say: the first counts, and one that is bad spoils all. `None` where there is no such element.
+pub type Field = Result<Option<u64>, BadValue>;
 
 // What a label says: the block size, and the letter of the data partition.
 #[derive(Clone, Copy)]

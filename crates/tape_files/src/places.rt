@@ -6,36 +6,21 @@ ghost use Rattle.tape_files.specs.Values.{extent_of};
 use crate::elements::{child_from, named_from, past_end};
 use crate::index::extent_from;
 use crate::values::byte_from;
-use crate::{Child, ExtentRead, Named, NextByte};
+use crate::{Child, ExtentRead, NextByte};
 use tape_markup::Place;
 
 // Whether a place in a CDATA section lies in a text of a size.
 fn lies_plain(size: usize, at: usize, end: usize) -> bool
     ensures { result ≡ (leb (at + 3) end && leb end size) }
 {
-    if end < 3 {
-        return false;
-    }
-    if end - 3 < at {
-        return false;
-    }
-    end <= size
+    3 <= end && at <= end - 3 && end <= size
 }
 
 // Whether a place behind an element by itself does.
 fn lies_shut(size: usize, from: usize, to: usize, at: usize) -> bool
     ensures { result ≡ (leb from to && leb to size && ltb 0 at && leb at size) }
 {
-    if to < from {
-        return false;
-    }
-    if size < to {
-        return false;
-    }
-    if at == 0 {
-        return false;
-    }
-    at <= size
+    from <= to && to <= size && 0 < at && at <= size
 }
 
 fn lies_in(text: &[u8], place: Place) -> bool
@@ -49,17 +34,19 @@ fn lies_in(text: &[u8], place: Place) -> bool
     }
 }
 
+#[tactic(auto, unfolding(crate::specs::Elements::taken_for))]
 fn place_in(text: &[u8], place: Place) -> Place
     ensures { result ≡ taken_for text.now place }
 {
     if lies_in(text, place) {
-        return place;
+        place
+    } else {
+        Place::Text(text.len())
     }
-    Place::Text(text.len())
 }
 
 // The next element inside the element that the reader stands in.
-pub fn next_child(text: &[u8], place: Place) -> Child
+pub fn next_child(text: &[u8], place: Place) -> Result<Child, Place>
     ensures { ChildMet text.now (taken_for text.now place) result }
 {
     child_from(text, place_in(text, place))
@@ -73,14 +60,14 @@ pub fn leave(text: &[u8], place: Place) -> Place
 }
 
 // The next element of a name. Those of other names are passed over.
-pub fn next_named(text: &[u8], place: Place, name: &[u8]) -> Named
+pub fn next_named(text: &[u8], place: Place, name: &[u8]) -> Result<Place, Place>
     ensures { NamedMet name.now text.now (taken_for text.now place) result }
 {
     named_from(text, place_in(text, place), name)
 }
 
 // The next byte directly in the element that the reader stands in. Elements in it are passed over.
-pub fn next_byte(text: &[u8], place: Place) -> NextByte
+pub fn next_byte(text: &[u8], place: Place) -> Result<NextByte, Place>
     ensures { ByteMet text.now (taken_for text.now place) result }
 {
     byte_from(text, place_in(text, place))

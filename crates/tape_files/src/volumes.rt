@@ -6,39 +6,23 @@ ghost use Rattle.tape_markup.specs.Places.{PlaceIn};
 ghost use Rattle.tape_files.specs.Index.{chars_of};
 ghost use Rattle.tape_files.specs.Elements.{inside};
 ghost use Rattle.tape_files.specs.Volumes.{other_volume};
-ghost use Rattle.tape_files.specs.Private.{VolumeMet, is_over};
+ghost use Rattle.tape_files.specs.Private.{VolumeMet};
 
 use crate::elements::named_from;
 use crate::values::byte_from;
-use crate::{Named, NextByte};
 use tape_markup::Place;
 
 // The first `volumeuuid` directly in an outermost element of a name.
-fn volume_in(text: &[u8], root: &[u8]) -> Named
+fn volume_in(text: &[u8], root: &[u8]) -> Result<Place, Place>
     ensures { VolumeMet root.now text.now result }
 {
     let mut here = Place::Text(0);
     loop {
-        let met = named_from(text, here, root);
-        match met {
-            Named::Done(next) => return Named::Done(next),
-            Named::At(inner) => {
-                let volume = named_from(text, inner, b"volumeuuid");
-                match volume {
-                    Named::At(place) => return Named::At(place),
-                    Named::Done(next) => here = next,
-                }
-            }
+        let inner = named_from(text, here, root)?;
+        match named_from(text, inner, b"volumeuuid") {
+            Ok(volume) => return Ok(volume),
+            Err(next) => here = next,
         }
-    }
-}
-
-fn is_over(met: NextByte) -> bool
-    ensures { result ≡ is_over met }
-{
-    match met {
-        NextByte::Byte { byte: _, next: _ } => false,
-        NextByte::Over(_) => true,
     }
 }
 
@@ -49,38 +33,27 @@ fn same_chars(one: &[u8], place: Place, other: &[u8], start: Place) -> bool
 {
     let mut here = place;
     let mut there = start;
-    loop {
-        let met = byte_from(one, here);
-        let beside = byte_from(other, there);
-        match met {
-            NextByte::Over(_) => return is_over(beside),
-            NextByte::Byte { byte, next } => match beside {
-                NextByte::Over(_) => return false,
-                NextByte::Byte {
-                    byte: second,
-                    next: after,
-                } => {
-                    if byte != second {
-                        return false;
-                    }
-                    here = next;
-                    there = after;
-                }
-            },
+    while let Ok(met) = byte_from(one, here) {
+        let Ok(beside) = byte_from(other, there) else {
+            return false;
+        };
+        if met.byte != beside.byte {
+            return false;
         }
+        here = met.next;
+        there = beside.next;
     }
+    byte_from(other, there).is_err()
 }
 
 // Whether a label and an index say different volumes.
 pub fn other_volume(label: &[u8], index: &[u8]) -> bool
     ensures { result ≡ other_volume (tree_of label.now) (tree_of index.now) }
 {
-    let said = volume_in(label, b"ltfslabel");
-    let Named::At(one) = said else {
+    let Ok(one) = volume_in(label, b"ltfslabel") else {
         return false;
     };
-    let beside = volume_in(index, b"ltfsindex");
-    let Named::At(other) = beside else {
+    let Ok(other) = volume_in(index, b"ltfsindex") else {
         return false;
     };
     !same_chars(label, one, index, other)

@@ -14,9 +14,9 @@ use Rattle.text_bytes.specs.Text.{starts_with}
 use Rattle.text_bytes.proofs.Bytes.{begun_long}
 use Rattle.tape_markup.specs.declared.Place.{Place}
 use Rattle.tape_markup.specs.declared.Step.{Step}
-use Rattle.tape_markup.specs.declared.scan.Ending.{Ending}
+use Rattle.std.specs.Prelude.{Option, Some, None}
 use Rattle.tape_markup.specs.declared.tokens.Opening.{Opening}
-use Rattle.tape_markup.specs.Markup.{End, after, never, further, end_behind, tag_end, declaration_end, front_of, is_blank, name_size}
+use Rattle.tape_markup.specs.Markup.{End, never, further, end_behind, tag_end, declaration_end, front_of, is_blank, name_size}
 use Rattle.tape_markup.specs.Markup.{comment_start, comment_end, plain_start, plain_end, instruction_start, instruction_end, declaration_start, end_tag_start}
 use Rattle.tape_markup.specs.Markup.{opens, alone, closes, broken, passed_to, plain_to, tag_to, start_tag, end_tag_to, end_tag, piece_of}
 use Rattle.tape_markup.specs.Steps.{piece_step, step_at}
@@ -37,32 +37,16 @@ module _ (text : List ℕ) (at : ℕ) where
   unfolding step_at
   step_markup l e = rw (add-one at, drop-cons text at 0 l, eq-eqb _ _ e)
 
--- A CDATA section: where its `]]>` ends, or that it never does.
-module _ (text : List ℕ) (at : ℕ) where
-  pub plain_never : (e : End) → e ≡ never → Step.Broken ≡ piece_step at (plain_to e)
-  plain_never e n = rw n
-
-  pub plain_ends : (next : ℕ) (e : End) → EndAt e text (at + 9) next → Step.Past (Place.Plain (at + 9) next) ≡ piece_step at (plain_to e)
-  plain_ends next e p =
-      let b = p.beyond in
-      let z : at + 1 + (8 + (next - (at + 9))) ≡ next = omega arith in
-      rw p.size (rw z)
-
 -- Something passed over, which begins so many bytes behind its `<`.
-pub passed_step : (text : List ℕ) (at from m : ℕ) (e : End) (ending : Ending) → from ≡ at + 1 + m → EndFound e text from ending → past_to ending ≡ piece_step at (passed_to (further m e))
-passed_step text at from m e (Ending.At next) s p =
+pub passed_step : (text : List ℕ) (at from m : ℕ) (e : End) (ending : Option ℕ) → from ≡ at + 1 + m → EndFound e text from ending → past_to ending ≡ piece_step at (passed_to (further m e))
+passed_step text at from m e (Some next) s p =
     let b = p.beyond in
     let z : at + 1 + (m + (next - from)) ≡ next = omega arith in
     rw p.size (rw z)
-passed_step text at from m e Ending.Never s p = rw p
+passed_step text at from m e None s p = rw p
 
 -- A start tag: its name ends at one position, and the tag at another.
 module _ (text : List ℕ) (at to n : ℕ) (size : to ≡ at + 1 + n) where
-  pub start_none : at + 1 ≡ to → Step.Broken ≡ piece_step at (start_tag (drop (at + 1) text) n)
-  start_none e =
-      let z : n ≡ 0 = omega arith in
-      rw z
-
   start_is : (at + 1 ≡ to → ⊥) → start_tag (drop (at + 1) text) n ≡ tag_to (drop (at + 1) text) n (tag_end 0 (drop to text))
   start_is s = by_size n (omega arith) ∙ ap (λ (t : List ℕ). tag_to (drop (at + 1) text) n (tag_end 0 t)) (drop-drop n (at + 1) text ∙ ap (λ (i : ℕ). drop i text) (sym size))
     where
@@ -101,11 +85,6 @@ module _ (text : List ℕ) (at to n : ℕ) (size : to ≡ at + 1 + n) where
 
 -- An end tag: its name ends at one position, the blanks behind it at another.
 module _ (text : List ℕ) (at to n : ℕ) (size : to ≡ at + 2 + n) where
-  pub close_none : at + 2 ≡ to → Step.Broken ≡ piece_step at (end_tag (drop (at + 2) text) n)
-  close_none e =
-      let z : n ≡ 0 = omega arith in
-      rw z
-
   module _ (end : ℕ) (s : at + 2 ≡ to → ⊥) (blanks : end ≡ to + front_of is_blank (drop to text)) where
     close_is : end_tag (drop (at + 2) text) n ≡ cond (eqb (get_or text end 0) 62) (closes n (2 + (n + front_of is_blank (drop to text)))) broken
     close_is =
@@ -163,7 +142,7 @@ module _ (text : List ℕ) (at : ℕ) (opening : Opening) (told : OpeningMet (ta
       let o : OpeningMet (drop (at + 1) text) Opening.EndTag = rw e at told_at in
       omega (arith, fits end_tag_start o.4 (omega arith))
 
-  pub comment_step : opening ≡ Opening.Comment → (ending : Ending) (r : Step) → EndFound (end_behind comment_end (drop (at + 4) text)) text (at + 4) ending → r ≡ past_to ending → r ≡ piece_step at (piece_of (drop (at + 1) text))
+  pub comment_step : opening ≡ Opening.Comment → (ending : Option ℕ) (r : Step) → EndFound (end_behind comment_end (drop (at + 4) text)) text (at + 4) ending → r ≡ past_to ending → r ≡ piece_step at (piece_of (drop (at + 1) text))
   unfolding piece_of
   comment_step e ending r f p =
       let o : starts_with comment_start (drop (at + 1) text) ≡ true = rw e at told_at in
@@ -176,14 +155,14 @@ module _ (text : List ℕ) (at : ℕ) (opening : Opening) (told : OpeningMet (ta
       let o : OpeningMet (drop (at + 1) text) Opening.Plain = rw e at told_at in
       rw (o.0, o.1, further_on_here 8 (at + 9) (omega arith)) p
 
-  pub instruction_step : opening ≡ Opening.Instruction → (ending : Ending) (r : Step) → EndFound (end_behind instruction_end (drop (at + 2) text)) text (at + 2) ending → r ≡ past_to ending → r ≡ piece_step at (piece_of (drop (at + 1) text))
+  pub instruction_step : opening ≡ Opening.Instruction → (ending : Option ℕ) (r : Step) → EndFound (end_behind instruction_end (drop (at + 2) text)) text (at + 2) ending → r ≡ past_to ending → r ≡ piece_step at (piece_of (drop (at + 1) text))
   unfolding piece_of
   instruction_step e ending r f p =
       let o : OpeningMet (drop (at + 1) text) Opening.Instruction = rw e at told_at in
       rw (o.0, o.1, o.2, further_on_here 1 (at + 2) (omega arith))
       (p ∙ passed_step text at (at + 2) 1 (end_behind instruction_end (drop (at + 2) text)) ending (omega arith) f)
 
-  pub declaration_step : opening ≡ Opening.Declaration → (ending : Ending) (r : Step) → EndFound (declaration_end 0 0 (drop (at + 2) text)) text (at + 2) ending → r ≡ past_to ending → r ≡ piece_step at (piece_of (drop (at + 1) text))
+  pub declaration_step : opening ≡ Opening.Declaration → (ending : Option ℕ) (r : Step) → EndFound (declaration_end 0 0 (drop (at + 2) text)) text (at + 2) ending → r ≡ past_to ending → r ≡ piece_step at (piece_of (drop (at + 1) text))
   unfolding piece_of
   declaration_step e ending r f p =
       let o : OpeningMet (drop (at + 1) text) Opening.Declaration = rw e at told_at in

@@ -2,20 +2,19 @@
 use Prim.Native.Nat.{ℕ, suc, ◌+◌, ◌-◌, ◌≤◌, ◌<◌}
 use mathlib.Core.Path.{◌≡◌, refl, ap, sym, ◌∙◌}
 use mathlib.Core.Bool.{Bool, true, false, cond, ◌&&◌}
-use mathlib.Core.List.{List}
+use mathlib.Core.List.{List, [], ◌∷◌}
 use native.Mathlib.Omega.{arith}
 use native.Mathlib.Numerals.{add-one}
 use lib.ListN.{length, get_or, take, drop, drop_of_length-le, length-drop}
 use lib.Seq.{drop-cons, take_all}
 use lib.Dec.{eqb}
+use Rattle.std.specs.List.{prefix_len}
+use Rattle.std.proofs.lemmas.List.Folds.{length-prefix_len}
+use Rattle.std.proofs.lemmas.List.Sums.{prefix_len-le-length}
 use Rattle.text_bytes.specs.Text.{starts_with}
 use Rattle.text_bytes.proofs.Bytes.{begun_long}
-use Rattle.tape_markup.specs.Markup.{End, after, never, further, end_behind, tag_end, quote_after, declaration_end, depth_after, front_of, begins_name, in_name, name_size}
+use Rattle.tape_markup.specs.Markup.{End, after, never, further, end_behind, tag_end, quote_after, declaration_end, depth_after, front_of}
 use Rattle.tape_markup.specs.Private.{EndAt}
-
-pub further_none : (e : End) → further 0 e ≡ e
-further_none (after k) = ap after (omega arith)
-further_none never = refl
 
 pub further_twice : (m n : ℕ) (e : End) → further m (further n e) ≡ further (m + n) e
 further_twice m n (after k) = ap after (omega arith)
@@ -26,11 +25,6 @@ pub record Sought (text : List ℕ) (at i : ℕ) (whole left : End) : Type 0 whe
   pub from : at ≤ i
   pub within : i ≤ length text
   pub same : whole ≡ further (i - at) left
-
-pub sought_none : (text : List ℕ) (at : ℕ) (whole : End) → at ≤ length text → Sought text at at whole whole
-sought_none text at whole l =
-    let z : at - at ≡ 0 = omega arith in
-    record { from = omega arith; within = l; same = rw z (sym (further_none whole)) }
 
 module _ (text : List ℕ) (at i : ℕ) (whole left : End) (p : Sought text at i whole left) where
   pub sought_more : (later : End) → i < length text → left ≡ further 1 later → Sought text at (i + 1) whole later
@@ -108,46 +102,18 @@ module _ (wanted text : List ℕ) (i : ℕ) where
   unfolding end_behind
   wanted_nowhere l = rw (drop_of_length-le text l)
 
--- Bytes of a kind, from one position on: those up to another are.
-pub record Fronted (kind : ℕ → Bool) (text : List ℕ) (at i : ℕ) : Type 0 where
-  pub from : at ≤ i
-  pub within : i ≤ length text
-  pub same : at + front_of kind (drop at text) ≡ i + front_of kind (drop i text)
+-- The bytes of a kind at the front of a text, as `take_while` finds them.
+front_prefix : (kind : ℕ → Bool) (text : List ℕ) → prefix_len kind text ≡ front_of kind text
+unfolding front_of
+front_prefix kind [] = refl
+front_prefix kind (b ∷ text) =
+    let more : 1 + prefix_len kind text ≡ suc (front_of kind text) = omega (arith, front_prefix kind text) in
+    ap (λ (n : ℕ). cond (kind b) n 0) more
 
-pub fronted_none : (kind : ℕ → Bool) (text : List ℕ) (at : ℕ) → at ≤ length text → Fronted kind text at at
-fronted_none kind text at l = record { from = omega arith; within = l; same = refl }
-
-module _ (kind : ℕ → Bool) (text : List ℕ) (at i : ℕ) (p : Fronted kind text at i) where
-  front_more : i < length text → kind (get_or text i 0) ≡ true → front_of kind (drop i text) ≡ suc (front_of kind (drop (i + 1) text))
-  unfolding front_of
-  front_more l e = rw (add-one i, drop-cons text i 0 l, e)
-
-  front_ends : i < length text → kind (get_or text i 0) ≡ false → front_of kind (drop i text) ≡ 0
-  unfolding front_of
-  front_ends l e = rw (drop-cons text i 0 l, e)
-
-  front_all : length text ≤ i → front_of kind (drop i text) ≡ 0
-  unfolding front_of
-  front_all l = rw (drop_of_length-le text l)
-
-  pub fronted_more : i < length text → kind (get_or text i 0) ≡ true → Fronted kind text at (i + 1)
-  fronted_more l e =
-      let m = front_more l e in
-      let s = p.same in
-      let f = p.from in
-      record { from = omega arith; within = omega arith; same = omega arith }
-
-  pub fronted_ends : i < length text → kind (get_or text i 0) ≡ false → (i ≡ at + front_of kind (drop at text)) × (i ≤ length text)
-  fronted_ends l e =
-      let m = front_ends l e in
-      let s = p.same in
-      (omega arith, p.within)
-
-  pub fronted_all : length text ≤ i → (i ≡ at + front_of kind (drop at text)) × (i ≤ length text)
-  fronted_all l =
-      let m = front_all l in
-      let s = p.same in
-      (omega arith, p.within)
+pub front_counted : (kind : ℕ → Bool) (text : List ℕ) (at n : ℕ) → at ≤ length text → n ≡ length (take (prefix_len kind (drop at text)) (drop at text)) → (at + n ≡ at + front_of kind (drop at text)) × (at + n ≤ length text)
+front_counted kind text at n l e =
+    let f : n ≡ prefix_len kind (drop at text) = e ∙ length-prefix_len kind (drop at text) in
+    (ap (λ (k : ℕ). at + k) (f ∙ front_prefix kind (drop at text)), omega (arith, prefix_len-le-length kind (drop at text), length-drop at text))
 
 -- A turn of each loop.
 module _ (text : List ℕ) (at i : ℕ) (whole : End) where
@@ -174,14 +140,3 @@ module _ (text : List ℕ) (at i : ℕ) (whole : End) where
       let h = begun_long wanted (drop i text) b in
       let d = length-drop i text in
       sought_at text at i whole (end_behind wanted (drop i text)) p (length wanted) s (omega arith) (wanted_here wanted text i l b)
-
--- The name at a position: none at the end of a text or where none begins, else all bytes of a name from there on.
-module _ (text : List ℕ) (at : ℕ) where
-  pub name_begins : at < length text → begins_name (get_or text at 0) ≡ true → name_size (drop at text) ≡ front_of in_name (drop at text)
-  name_begins l e = rw (drop-cons text at 0 l) (rw e)
-
-  pub name_none : at < length text → begins_name (get_or text at 0) ≡ false → name_size (drop at text) ≡ 0
-  name_none l e = rw (drop-cons text at 0 l) (rw e)
-
-  pub name_over : length text ≤ at → name_size (drop at text) ≡ 0
-  name_over l = rw (drop_of_length-le text l)

@@ -1,20 +1,19 @@
 -- The bytes of text at a place, passed over at once: behind them stand the same tokens.
-use Prim.Native.Nat.{ℕ, zero, suc, ◌+◌, ◌-◌, ◌*◌, ◌≤◌, ◌<◌}
-use mathlib.Core.Path.{◌≡◌, refl, ap, sym, ◌∙◌}
-use mathlib.Core.Bool.{Bool, true, false, cond, not}
+use Prim.Native.Nat.{ℕ, zero, suc, ◌+◌, ◌*◌, ◌≤◌, ◌<◌}
+use mathlib.Core.Path.{◌≡◌, refl, ap, ◌∙◌}
+use mathlib.Core.Bool.{Bool, true, false, cond}
 use mathlib.Core.List.{List, [], ◌∷◌, ◌++◌, map}
 use native.Mathlib.Omega.{arith}
-use native.Mathlib.Numerals.{add-one}
-use lib.ListN.{length, get_or, take, drop, drop_of_length-le, length-drop}
-use lib.Seq.{drop-nil, drop-drop}
+use lib.ListN.{length, take, drop, drop_of_length-le, length-drop}
+use lib.Seq.{drop-drop}
 use lib.Dec.{eqb}
 use Rattle.tape_markup.specs.declared.Place.{Place}
 use Rattle.tape_markup.specs.Markup.{Token, Char, front_of, is_char, tokens_behind, tokens_of}
-use Rattle.tape_markup.specs.Tree.{Forest, innermost, enclosing, frames, closes_all}
+use Rattle.tape_markup.specs.Tree.{enclosing, frames, closes_all}
 use Rattle.tape_markup.specs.Steps.{behind_text}
 use Rattle.tape_markup.specs.Places.{PlaceIn, place_at, tokens_at, Told}
 use Rattle.tape_markup.specs.Promises.{TextIsPassed}
-use Rattle.tape_markup.proofs.Meets.{unread, place_within}
+use Rattle.tape_markup.proofs.Meets.{unread}
 use Rattle.tape_markup.proofs.Names.{Balancing, names, closes_byte}
 
 -- A place at or past the end stays; any other goes to the first `<`.

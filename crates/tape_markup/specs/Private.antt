@@ -1,10 +1,9 @@
 -- What the private functions ask and find. No public contract cites this file.
-use Rattle.std.specs.Prelude.{ℕ, ◌-◌, ◌≤◌, ◌<◌, ◌≡◌, Bool, true, false, ◌&&◌, List, length, get_or, eqb, ltb}
+use Rattle.std.specs.Prelude.{ℕ, ◌-◌, ◌≤◌, ◌<◌, ◌≡◌, Bool, true, false, ◌&&◌, Option, Some, None, List, length, get_or, eqb, ltb}
 use Prim.Native.Char.{code}
 use Rattle.text_bytes.specs.Text.{starts_with}
 use Rattle.tape_markup.specs.declared.Place.{Place}
 use Rattle.tape_markup.specs.declared.Step.{Step}
-use Rattle.tape_markup.specs.declared.scan.Ending.{Ending}
 use Rattle.tape_markup.specs.declared.tokens.Opening.{Opening}
 use Rattle.tape_markup.specs.Markup.{End, after, never, comment_start, plain_start, instruction_start, declaration_start, end_tag_start}
 
@@ -14,9 +13,9 @@ pub record EndAt (end : End) (text : List ℕ) (at next : ℕ) : Type 0 where
   pub beyond : at < next
   pub within : next ≤ length text
 
-abbrev pub EndFound : End → List ℕ → ℕ → Ending → Type 0
-EndFound end text at (Ending.At next) = EndAt end text at next
-EndFound end text at Ending.Never = end ≡ never
+abbrev pub EndFound : End → List ℕ → ℕ → Option ℕ → Type 0
+EndFound end text at (Some next) = EndAt end text at next
+EndFound end text at None = end ≡ never
 
 -- A tag whose name ends at one position and itself at another, with a `/` right before its `>`.
 abbrev pub is_alone : List ℕ → ℕ → ℕ → Bool
@@ -26,9 +25,9 @@ is_alone text to end = ltb 1 (end - to) && eqb (get_or text (end - 2) 0) (code "
 abbrev pub ends_declaration : ℕ → ℕ → ℕ → Bool
 ends_declaration quote depth b = eqb quote 0 && eqb depth 0 && eqb b (code ">")
 
-abbrev pub past_to : Ending → Step
-past_to (Ending.At next) = Step.Past (Place.Text next)
-past_to Ending.Never = Step.Broken
+abbrev pub past_to : Option ℕ → Step
+past_to (Some next) = Step.Past (Place.Text next)
+past_to None = Step.Broken
 
 -- Which kind of markup a text begins. Each is tried only where those before it do not fit.
 abbrev pub OpeningMet : List ℕ → Opening → Type 0

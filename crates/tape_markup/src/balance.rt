@@ -24,6 +24,7 @@ pub fn is_balanced(text: &[u8]) -> bool
     let mut tos = [0usize; 32];
     let mut open: usize = 0;
     let mut place = Place::Text(0);
+    // Stays: the number of open elements goes up and down with the tags, so that no range and no chain counts it.
     loop {
         let step = step_from(text, place);
         match step {

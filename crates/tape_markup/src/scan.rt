@@ -1,32 +1,24 @@
-// Where things in a text end. Each search starts at a position and answers one: the first behind what it looked for.
+// Where things in a text end. Each search starts at a position and answers one: the first behind what it looked for; `None` where it never ends.
 ghost use Rattle.std.specs.Prelude.{◌≡◌, ◌+◌, ◌≤◌, ◌<◌, ◌&&◌, length, drop, eqb};
 ghost use Rattle.tape_markup.specs.Markup.{end_behind, tag_end, declaration_end, quote_after, depth_after, front_of, is_char, is_blank, begins_name, in_name, name_size};
 ghost use Rattle.tape_markup.specs.Private.{EndFound, ends_declaration};
 
-// The position behind what was looked for, or that it never ends.
-#[derive(Clone, Copy)]
-pub(crate) enum Ending {
-    At(usize),
-    Never,
-}
-
 // Behind the first place, from a position on, where some bytes stand.
-pub(crate) fn end_behind(text: &[u8], at: usize, wanted: &[u8]) -> Ending
+pub(crate) fn end_behind(text: &[u8], at: usize, wanted: &[u8]) -> Option<usize>
     requires at_in_bounds { at ≤ length text.now }
     requires wanted_nonzero { 0 < length wanted.now }
     ensures { EndFound (end_behind wanted.now (drop at text.now)) text.now at result }
 {
-    let mut i = at;
-    while i < text.len() {
+    for i in at..text.len() {
         if text_bytes::starts(&text[i..], wanted) {
-            return Ending::At(i + wanted.len());
+            return Some(i + wanted.len());
         }
-        i += 1;
     }
-    Ending::Never
+    None
 }
 
 // The quote that is open behind a byte, 0 for none.
+// Stays: `tag_end` and `declaration_end`, by which the theorems on markup tell where a tag ends, read a quote as a byte and none as 0, so that it is no Option.
 fn quote_after(quote: u8, byte: u8) -> u8
     ensures { result ≡ quote_after quote byte }
 {
@@ -56,24 +48,22 @@ fn is_bare(quote: u8, byte: u8, wanted: u8) -> bool
 }
 
 // The end of a tag, from behind its name on.
-pub(crate) fn tag_end(text: &[u8], at: usize) -> Ending
+pub(crate) fn tag_end(text: &[u8], at: usize) -> Option<usize>
     requires { at ≤ length text.now }
     ensures { EndFound (tag_end 0 (drop at text.now)) text.now at result }
 {
     let mut quote: u8 = 0;
-    let mut i = at;
-    while i < text.len() {
+    for i in at..text.len() {
         let byte = text[i];
         if is_bare(quote, byte, b'>') {
-            return Ending::At(i + 1);
+            return Some(i + 1);
         }
         if is_bare(quote, byte, b'<') {
-            return Ending::Never;
+            return None;
         }
         quote = quote_after(quote, byte);
-        i += 1;
     }
-    Ending::Never
+    None
 }
 
 // How many brackets are open behind a byte.
@@ -84,48 +74,35 @@ fn depth_after(quote: u8, depth: usize, byte: u8) -> usize
     if quote != 0 {
         return depth;
     }
-    if byte == b'[' {
-        return depth + 1;
+    match byte {
+        b'[' => depth + 1,
+        b']' => depth.saturating_sub(1),
+        _ => depth,
     }
-    if byte == b']' {
-        if depth == 0 {
-            return 0;
-        }
-        return depth - 1;
-    }
-    depth
 }
 
 fn ends_declaration(quote: u8, depth: usize, byte: u8) -> bool
     ensures { result ≡ ends_declaration quote depth byte }
 {
-    if quote != 0 {
-        return false;
-    }
-    if depth != 0 {
-        return false;
-    }
-    byte == b'>'
+    quote == 0 && depth == 0 && byte == b'>'
 }
 
 // The end of a declaration, from behind its `<!` on.
-pub(crate) fn declaration_end(text: &[u8], at: usize) -> Ending
+pub(crate) fn declaration_end(text: &[u8], at: usize) -> Option<usize>
     requires { at ≤ length text.now }
     ensures { EndFound (declaration_end 0 0 (drop at text.now)) text.now at result }
 {
     let mut quote: u8 = 0;
     let mut depth: usize = 0;
-    let mut i = at;
-    while i < text.len() {
+    for i in at..text.len() {
         let byte = text[i];
         if ends_declaration(quote, depth, byte) {
-            return Ending::At(i + 1);
+            return Some(i + 1);
         }
         depth = depth_after(quote, depth, byte);
         quote = quote_after(quote, byte);
-        i += 1;
     }
-    Ending::Never
+    None
 }
 
 // The first position, from one on, that holds a `<`, or the text's end.
@@ -133,14 +110,7 @@ pub(crate) fn behind_chars(text: &[u8], at: usize) -> usize
     requires { at ≤ length text.now }
     ensures { (result ≡ at + front_of is_char (drop at text.now)) × (result ≤ length text.now) }
 {
-    let mut i = at;
-    while i < text.len() {
-        if text[i] == b'<' {
-            return i;
-        }
-        i += 1;
-    }
-    i
+    at + text[at..].iter().take_while(|byte| **byte != b'<').count()
 }
 
 fn is_blank(byte: u8) -> bool
@@ -163,14 +133,10 @@ pub(crate) fn behind_blanks(text: &[u8], at: usize) -> usize
     requires { at ≤ length text.now }
     ensures { (result ≡ at + front_of is_blank (drop at text.now)) × (result ≤ length text.now) }
 {
-    let mut i = at;
-    while i < text.len() {
-        if !is_blank(text[i]) {
-            return i;
-        }
-        i += 1;
-    }
-    i
+    at + text[at..]
+        .iter()
+        .take_while(|byte| is_blank(**byte))
+        .count()
 }
 
 fn begins_name(byte: u8) -> bool
@@ -211,14 +177,7 @@ fn behind_name_bytes(text: &[u8], at: usize) -> usize
     requires { at ≤ length text.now }
     ensures { (result ≡ at + front_of in_name (drop at text.now)) × (result ≤ length text.now) }
 {
-    let mut i = at;
-    while i < text.len() {
-        if !in_name(text[i]) {
-            return i;
-        }
-        i += 1;
-    }
-    i
+    at + text[at..].iter().take_while(|byte| in_name(**byte)).count()
 }
 
 // Behind the name that begins at a position; the position itself where none begins there.
@@ -226,11 +185,9 @@ pub(crate) fn behind_name(text: &[u8], at: usize) -> usize
     requires { at ≤ length text.now }
     ensures { (result ≡ at + name_size (drop at text.now)) × (result ≤ length text.now) }
 {
-    if at == text.len() {
-        return at;
+    if at < text.len() && begins_name(text[at]) {
+        behind_name_bytes(text, at)
+    } else {
+        at
     }
-    if begins_name(text[at]) {
-        return behind_name_bytes(text, at);
-    }
-    at
 }

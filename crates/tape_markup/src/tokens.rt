@@ -4,12 +4,11 @@ ghost use Rattle.tape_markup.specs.Markup.{start_tag, end_tag, plain_to, plain_e
 ghost use Rattle.tape_markup.specs.Steps.{piece_step, step_at, behind_text};
 ghost use Rattle.tape_markup.specs.Private.{OpeningMet, is_alone, past_to};
 
-use crate::scan::{
-    Ending, behind_blanks, behind_chars, behind_name, declaration_end, end_behind, tag_end,
-};
+use crate::scan::{behind_blanks, behind_chars, behind_name, declaration_end, end_behind, tag_end};
 use crate::{Place, Step};
 
 // What a `<` can begin.
+// Stays: a closure or a function that is handed out in its place is refused by `rt ci`, and the tests and the calls in one function are no plainer.
 #[derive(Clone, Copy)]
 enum Opening {
     Comment,
@@ -21,12 +20,12 @@ enum Opening {
 }
 
 // Something that is passed over, and ends there.
-fn past(ending: Ending) -> Step
-    ensures { result ≡ past_to ending }
+fn past(end: Option<usize>) -> Step
+    ensures { result ≡ past_to end }
 {
-    match ending {
-        Ending::At(next) => Step::Past(Place::Text(next)),
-        Ending::Never => Step::Broken,
+    match end {
+        Some(next) => Step::Past(Place::Text(next)),
+        None => Step::Broken,
     }
 }
 
@@ -37,11 +36,11 @@ fn plain_bytes(text: &[u8], at: usize) -> Step
 {
     let from = at + 9;
     match end_behind(text, from, b"]]>") {
-        Ending::At(next) => Step::Past(Place::Plain {
+        Some(next) => Step::Past(Place::Plain {
             at: from,
             end: next,
         }),
-        Ending::Never => Step::Broken,
+        None => Step::Broken,
     }
 }
 
@@ -50,10 +49,7 @@ fn is_alone(text: &[u8], to: usize, end: usize) -> bool
     requires { (to ≤ end) × (end ≤ length text.now) }
     ensures { result ≡ is_alone text.now to end }
 {
-    if end - to < 2 {
-        return false;
-    }
-    text[end - 2] == b'/'
+    2 <= end - to && text[end - 2] == b'/'
 }
 
 fn start_tag(text: &[u8], at: usize) -> Step
@@ -65,7 +61,7 @@ fn start_tag(text: &[u8], at: usize) -> Step
     if from == to {
         return Step::Broken;
     }
-    let Ending::At(end) = tag_end(text, to) else {
+    let Some(end) = tag_end(text, to) else {
         return Step::Broken;
     };
     if is_alone(text, to, end) {
@@ -92,10 +88,7 @@ fn end_tag(text: &[u8], at: usize) -> Step
         return Step::Broken;
     }
     let end = behind_blanks(text, to);
-    if end == text.len() {
-        return Step::Broken;
-    }
-    if text[end] != b'>' {
+    if end == text.len() || text[end] != b'>' {
         return Step::Broken;
     }
     Step::Finish {
@@ -164,13 +157,7 @@ fn text_step(text: &[u8], at: usize) -> Step
 fn is_plain(text: &[u8], at: usize, end: usize) -> bool
     ensures { result ≡ (ltb (at + 3) end && ltb at (length text.now)) }
 {
-    if end < 3 {
-        return false;
-    }
-    if end - 3 <= at {
-        return false;
-    }
-    at < text.len()
+    3 <= end && at < end - 3 && at < text.len()
 }
 
 fn plain_step(text: &[u8], at: usize, end: usize) -> Step
@@ -205,14 +192,9 @@ pub fn behind_text(text: &[u8], place: Place) -> Place
     ensures { result ≡ behind_text text.now place }
 {
     match place {
-        Place::Text(at) => {
-            if text.len() <= at {
-                return Place::Text(at);
-            }
-            let next = behind_chars(text, at);
-            Place::Text(next)
-        }
-        Place::Plain { at, end } => Place::Plain { at, end },
-        Place::Shut { from, to, at } => Place::Shut { from, to, at },
+        Place::Text(at) if at < text.len() => Place::Text(behind_chars(text, at)),
+        Place::Text(_) => place,
+        Place::Plain { .. } => place,
+        Place::Shut { .. } => place,
     }
 }

@@ -1,20 +1,19 @@
 -- A name from left to right: the range of what is read so far, and the one before the last `&`, say what the whole name says.
-use Prim.Native.Nat.{ℕ, suc, ◌≤◌}
+use Prim.Native.Nat.{ℕ, ◌+◌, ◌<◌}
 use mathlib.Core.Path.{◌≡◌, refl, ap, sym, ◌∙◌}
 use mathlib.Core.Bool.{Bool, true, false, cond}
 use mathlib.Core.List.{List, [], ◌∷◌, ◌++◌, append_assoc, append-nil}
-use native.Mathlib.Omega.{arith}
-use lib.ListN.{length, take, drop, length-append}
-use lib.Seq.{take-append_seam, append_snoc}
+use lib.ListN.{length, get_or, take}
+use lib.Seq.{append_snoc}
 use lib.Dec.{eqb}
-use borrow.Author.Tests.{eqb-true, eq-eqb, ne_eqb}
+use Rattle.std.proofs.lemmas.List.{take_more}
+use borrow.Author.Tests.{eqb-true}
 use Rattle.text_bytes.specs.Text.{bytes, has}
 use Rattle.text_bytes.proofs.Decimals.{has_append}
 use Rattle.text_references.specs.declared.Reading.{Reading}
-use Rattle.text_references.specs.declared.Utf8.{Utf8}
 use Rattle.text_references.specs.References.{ampersand, semicolon, character_of, utf8, decoded_behind, decoded}
-use Rattle.text_references.specs.Readings.{unread, read_next, read_behind, character_in, fields_of, with_zeros, Holds}
-use Rattle.text_references.specs.Promises.{Ended, EndedBy, Written, said_by}
+use Rattle.text_references.specs.Readings.{unread, read_next, read_behind, character_in}
+use Rattle.text_references.specs.Promises.{Ended, EndedBy, Written}
 use Rattle.text_references.proofs.Written.{readings_say_characters}
 use Rattle.text_references.proofs.Streams.{bytes_say_themselves, begun_says_itself, ended_says_character}
 use Rattle.tape_markup.specs.declared.Place.{Place}
@@ -27,73 +26,14 @@ use Rattle.text_order.specs.declared.Range.{Range}
 use Rattle.text_order.specs.Order.{narrowed_in, narrowed_all}
 use Rattle.text_order.proofs.Prefixes.{narrowed_append, narrowed_one}
 use Rattle.tape_names.specs.declared.Naming.{Naming}
-use Rattle.tape_names.specs.Private.{no_naming, said_from, naming_by, with_byte}
+use Rattle.std.specs.Prelude.{Option, Some, None}
+use Rattle.tape_names.specs.declared.Begun.{Begun}
+use Rattle.tape_names.specs.Private.{no_naming, said_from, begun_by, with_byte}
 
--- A character's bytes, as many of the four as there are.
-held_bytes : (text : List ℕ) (r : Utf8) → Holds text r → text ≡ take r.count (fields_of r)
-held_bytes text r h = sym (rw (h.size, h.fields) (take-append_seam text (drop (length text) (0 ∷ 0 ∷ 0 ∷ 0 ∷ []))))
-
-held_most : (text : List ℕ) (r : Utf8) → Holds text r → r.count ≤ 4
-held_most text r h = omega (arith, h.size, ap length h.fields, length-append text (drop (length text) (0 ∷ 0 ∷ 0 ∷ 0 ∷ [])))
-
-module _ (list starts ends order : List ℕ) (range : Range) (text : List ℕ) (r : Utf8) (h : Holds text r) where
-  counted : (n : ℕ) → r.count ≡ n → text ≡ take n (fields_of r)
-  counted n e = held_bytes text r h ∙ rw e
-
-  pub no_bytes : r.count ≡ 0 → range ≡ narrowed_all list starts ends order range text
-  unfolding narrowed_all
-  no_bytes e = rw (counted 0 e)
-
-  module _ (one : Range) (first : one ≡ narrowed_in list starts ends order range r.first) where
-    pub one_byte : r.count ≡ 1 → one ≡ narrowed_all list starts ends order range text
-    unfolding narrowed_all
-    one_byte e = first ∙ rw (counted 1 e)
-
-    module _ (two : Range) (second : two ≡ narrowed_in list starts ends order one r.second) where
-      pub two_bytes : r.count ≡ 2 → two ≡ narrowed_all list starts ends order range text
-      unfolding narrowed_all
-      two_bytes e = second ∙ rw (first, counted 2 e)
-
-      module _ (three : Range) (third : three ≡ narrowed_in list starts ends order two r.third) where
-        pub three_bytes : r.count ≡ 3 → three ≡ narrowed_all list starts ends order range text
-        unfolding narrowed_all
-        three_bytes e = third ∙ rw (second, first, counted 3 e)
-
-        pub four_bytes : (r.count ≡ 0 → ⊥) → (r.count ≡ 1 → ⊥) → (r.count ≡ 2 → ⊥) → (r.count ≡ 3 → ⊥) → (four : Range)
-            → four ≡ narrowed_in list starts ends order three r.fourth → four ≡ narrowed_all list starts ends order range text
-        unfolding narrowed_all
-        four_bytes a b c d four fourth = fourth ∙ rw (third, second, first, counted 4 (omega (arith, held_most text r h)))
-
--- A `;` behind a reading.
-module _ (list starts ends order : List ℕ) (before longer : Range) (reading : Reading) (number : ℕ) (found : number ≡ character_in reading) where
-  pub said_itself : number ≡ 0 → longer ≡ said_from list starts ends order before longer reading
-  unfolding said_from
-  said_itself e = rw (eq-eqb (character_in reading) 0 (sym found ∙ e))
-
-  pub said_character : (number ≡ 0 → ⊥) → (r : Range) → r ≡ narrowed_all list starts ends order before (utf8 number) → r ≡ said_from list starts ends order before longer reading
-  unfolding said_from
-  said_character n r e = e ∙ rw (found, ne_eqb (character_in reading) 0 (λ z. n (found ∙ z)))
-
--- One more byte, as the code tells the four cases apart.
-module _ (list starts ends order : List ℕ) (naming : Naming) (byte : ℕ) (longer : Range) (l : longer ≡ narrowed_in list starts ends order naming.whole byte) where
-  pub by_and : byte ≡ ampersand → record { begun = true; before = naming.whole; whole = longer; reading = unread } ≡ with_byte list starts ends order naming byte
-  unfolding with_byte
-  by_and e = rw (l, eq-eqb byte ampersand e)
-
-  module _ (n : byte ≡ ampersand → ⊥) where
-    pub by_plain : naming.begun ≡ false → record { begun = false; before = naming.before; whole = longer; reading = naming.reading } ≡ with_byte list starts ends order naming byte
-    unfolding with_byte
-    by_plain b = rw (l, ne_eqb byte ampersand n, b)
-
-    pub by_end : naming.begun ≡ true → byte ≡ semicolon → (said : Range) → said ≡ said_from list starts ends order naming.before longer naming.reading
-        → record { begun = false; before = naming.before; whole = said; reading = naming.reading } ≡ with_byte list starts ends order naming byte
-    unfolding with_byte
-    by_end b e said s = rw (s, l, ne_eqb byte ampersand n, b, eq-eqb byte semicolon e)
-
-    pub by_more : naming.begun ≡ true → (byte ≡ semicolon → ⊥) → (later : Reading) → later ≡ read_next naming.reading byte
-        → record { begun = true; before = naming.before; whole = longer; reading = later } ≡ with_byte list starts ends order naming byte
-    unfolding with_byte
-    by_more b m later r = rw (r, l, ne_eqb byte ampersand n, b, ne_eqb byte semicolon m)
+-- One more byte of a text.
+pub narrowed_next : (list starts ends order : List ℕ) (range one next : Range) (text : List ℕ) (i : ℕ) → one ≡ narrowed_all list starts ends order range (take i text) → i < length text
+    → next ≡ narrowed_in list starts ends order one (get_or text i 0) → next ≡ narrowed_all list starts ends order range (take (i + 1) text)
+narrowed_next list starts ends order range one next text i e l n = n ∙ rw (e, take_more text i 0 l) (sym (narrowed_one list starts ends order range (take i text) (get_or text i 0)))
 
 -- One more byte behind a `&`.
 read_behind_one : (reading : Reading) (written : List ℕ) (b : ℕ) → read_behind reading (written ++ b ∷ []) ≡ read_next (read_behind reading written) b
@@ -114,26 +54,26 @@ module _ (list starts ends order : List ℕ) (range : Range) where
   range_of said = narrowed_all list starts ends order range said
 
   -- What was read ends with a `&` and what was written behind it.
-  record Begun (read : List ℕ) (naming : Naming) : Type 0 where
+  record BegunBy (read : List ℕ) (begun : Begun) : Type 0 where
     text : List ℕ
     written : List ℕ
     is : read ≡ text ++ ampersand ∷ written
     ended : EndedBy text
     clean : Written written
-    before : naming.before ≡ range_of (decoded text)
-    reading : naming.reading ≡ read_behind unread written
+    before : begun.before ≡ range_of (decoded text)
+    reading : begun.reading ≡ read_behind unread written
 
-  abbrev Standing : Bool → List ℕ → Naming → Type 0
-  Standing true read naming = Begun read naming
-  Standing false read naming = Ended read
+  abbrev Standing : Option Begun → List ℕ → Type 0
+  Standing (Some begun) read = BegunBy read begun
+  Standing None read = Ended read
 
   record NameRead (read : List ℕ) (naming : Naming) : Type 0 where
     whole : naming.whole ≡ range_of (decoded read)
-    standing : Standing naming.begun read naming
+    standing : Standing naming.begun read
 
-  ended_by : (begun : Bool) (read : List ℕ) (naming : Naming) → Standing begun read naming → EndedBy read
-  ended_by true read naming q = rw q.is (begun_says_itself q.text q.written q.ended q.clean).ended
-  ended_by false read naming q = λ rest. q (ampersand ∷ rest)
+  ended_by : (begun : Option Begun) (read : List ℕ) → Standing begun read → EndedBy read
+  ended_by (Some begun) read q = rw q.is (begun_says_itself q.text q.written q.ended q.clean).ended
+  ended_by None read q = λ rest. q (ampersand ∷ rest)
 
   module _ (read : List ℕ) (naming : Naming) (p : NameRead read naming) (byte : ℕ) where
     abbrev longer : Range
@@ -143,11 +83,11 @@ module _ (list starts ends order : List ℕ) (range : Range) where
     longer_is = rw p.whole (sym (narrowed_one list starts ends order range (decoded read) byte))
 
     -- A `&`.
-    read_and : eqb byte ampersand ≡ true → NameRead (read ++ byte ∷ []) (record { begun = true; before = naming.whole; whole = longer; reading = unread })
+    read_and : eqb byte ampersand ≡ true → NameRead (read ++ byte ∷ []) (record { whole = longer; begun = Some (record { before = naming.whole; reading = unread }) })
     unfolding read_behind
     read_and e =
         let is : byte ≡ ampersand = eqb-true byte ampersand e in
-        let b : EndedBy read = ended_by naming.begun read naming p.standing in
+        let b : EndedBy read = ended_by naming.begun read p.standing in
         record {
           whole = longer_is ∙ rw is (ap range_of (sym (begun_says_itself read [] b written_none).said));
           standing = record { text = read; written = []; is = rw is; ended = b; clean = written_none; before = p.whole; reading = refl };
@@ -155,12 +95,12 @@ module _ (list starts ends order : List ℕ) (range : Range) where
 
     module _ (plain : eqb byte ampersand ≡ false) where
       -- A byte behind no `&`.
-      read_plain : Ended read → NameRead (read ++ byte ∷ []) (record { begun = false; before = naming.before; whole = longer; reading = naming.reading })
+      read_plain : Ended read → NameRead (read ++ byte ∷ []) (record { whole = longer; begun = None })
       read_plain q =
           let d = bytes_say_themselves read byte q plain in
           record { whole = longer_is ∙ ap range_of (sym d.said); standing = d.ended }
 
-      module _ (q : Begun read naming) where
+      module _ (begun : Begun) (q : BegunBy read begun) where
         said_so_far : decoded read ++ byte ∷ [] ≡ decoded q.text ++ ampersand ∷ (q.written ++ byte ∷ [])
         said_so_far =
             ap (λ t. t ++ byte ∷ []) (ap decoded q.is ∙ (begun_says_itself q.text q.written q.ended q.clean).said)
@@ -170,7 +110,7 @@ module _ (list starts ends order : List ℕ) (range : Range) where
         read_so_far = ap (λ t. t ++ byte ∷ []) q.is ∙ append_assoc q.text (ampersand ∷ q.written) (byte ∷ [])
 
         -- A byte that is no `;`.
-        read_on_here : eqb byte semicolon ≡ false → NameRead (read ++ byte ∷ []) (record { begun = true; before = naming.before; whole = longer; reading = read_next naming.reading byte })
+        read_on_here : eqb byte semicolon ≡ false → NameRead (read ++ byte ∷ []) (record { whole = longer; begun = Some (record { before = begun.before; reading = read_next begun.reading byte }) })
         read_on_here e =
             let w = written_more q.written byte q.clean e plain in
             let said = (begun_says_itself q.text (q.written ++ byte ∷ []) q.ended w).said in
@@ -189,20 +129,20 @@ module _ (list starts ends order : List ℕ) (range : Range) where
 
         -- A `;`: the character that was written, or all of it as it stands.
         either : (t : Bool) → byte ≡ semicolon
-            → cond t longer (narrowed_all list starts ends order naming.before (utf8 (character_of q.written)))
+            → cond t longer (narrowed_all list starts ends order begun.before (utf8 (character_of q.written)))
             ≡ range_of (decoded q.text ++ cond t (ampersand ∷ (q.written ++ semicolon ∷ [])) (utf8 (character_of q.written)))
         either true is = longer_is ∙ ap range_of said_so_far ∙ rw is
         either false is = rw q.before (sym (narrowed_append list starts ends order range (decoded q.text) (utf8 (character_of q.written))))
 
         read_end : eqb byte semicolon ≡ true
             → NameRead (read ++ byte ∷ [])
-            (record { begun = false; before = naming.before; whole = said_from list starts ends order naming.before longer naming.reading; reading = naming.reading })
+            (record { whole = said_from list starts ends order begun.before longer begun.reading; begun = None })
         unfolding said_from
         read_end e =
             let is : byte ≡ semicolon = eqb-true byte semicolon e in
             let d = ended_says_character q.text q.written q.ended q.clean in
             let all : read ++ byte ∷ [] ≡ q.text ++ ampersand ∷ (q.written ++ semicolon ∷ []) = read_so_far ∙ rw is in
-            let found : character_in naming.reading ≡ character_of q.written = ap character_in q.reading ∙ readings_say_characters q.written in
+            let found : character_in begun.reading ≡ character_of q.written = ap character_in q.reading ∙ readings_say_characters q.written in
             record {
               whole = rw found (either (eqb (character_of q.written) 0) is ∙ ap range_of (sym (ap decoded all ∙ d.said)));
               standing = rw all d.ended;
@@ -212,18 +152,13 @@ module _ (list starts ends order : List ℕ) (range : Range) where
     unfolding with_byte
     read_byte = go (eqb byte ampersand) refl naming.begun p.standing (eqb byte semicolon) refl
       where
-        go : (a : Bool) → eqb byte ampersand ≡ a → (b : Bool) → Standing b read naming → (s : Bool) → eqb byte semicolon ≡ s
+        go : (a : Bool) → eqb byte ampersand ≡ a → (b : Option Begun) → Standing b read → (s : Bool) → eqb byte semicolon ≡ s
             → NameRead (read ++ byte ∷ [])
-            (cond a (record { begun = true; before = naming.whole; whole = longer; reading = unread })
-            (cond b
-            (cond s
-            (record { begun = false; before = naming.before; whole = said_from list starts ends order naming.before longer naming.reading; reading = naming.reading })
-            (record { begun = true; before = naming.before; whole = longer; reading = read_next naming.reading byte }))
-            (record { begun = false; before = naming.before; whole = longer; reading = naming.reading })))
+            (cond a (record { whole = longer; begun = Some (record { before = naming.whole; reading = unread }) }) (begun_by list starts ends order b byte longer))
         go true a b q s e = read_and a
-        go false a true q true e = read_end a q e
-        go false a true q false e = read_on_here a q e
-        go false a false q s e = read_plain a q
+        go false a (Some begun) q true e = rw e (read_end a begun q e)
+        go false a (Some begun) q false e = rw e (read_on_here a begun q e)
+        go false a None q s e = read_plain a q
 
   -- The bytes of a name, one after the other.
   unfoldable pub namingFrom : Naming → List ℕ → Naming
@@ -244,9 +179,6 @@ module _ (list starts ends order : List ℕ) (range : Range) where
   pub record NameLeft (text : List ℕ) (place : Place) (naming : Naming) (here : Place) : Type 0 where
     pub within : PlaceIn text here
     pub same : namingFrom naming (chars_of (inside text here)) ≡ namingFrom (no_naming range) (chars_of (inside text place))
-
-  pub left_none : (text : List ℕ) (place : Place) → PlaceIn text place → NameLeft text place (no_naming range) place
-  left_none text place p = record { within = p; same = refl }
 
   module _ (text : List ℕ) (place : Place) (naming : Naming) (here : Place) (p : NameLeft text place naming here) where
     pub left_byte : (byte : ℕ) (next : Place) → ByteAt text here byte next → (later : Naming) → later ≡ with_byte list starts ends order naming byte → NameLeft text place later next

@@ -12,20 +12,33 @@ ghost use Rattle.tape_files.specs.NamedFiles.{own_name};
 ghost use Rattle.text_order.specs.Order.{narrowed_all};
 ghost use Rattle.tape_names.specs.Private.{said_from, with_byte};
 
-use tape_files::{Named, NextByte, next_byte, next_named};
+use tape_files::{next_byte, next_named};
 use tape_markup::Place;
 use text_order::{Range, narrow};
 use text_references::{Reading, character_in, encode, read_next};
 
-// What the bytes of a name come to so far: whether a `&` stands behind which neither a `;` nor another `&` came; the range before the last `&`; the range of all of
-// them, with everything behind that `&` standing for itself; and what was read behind it.
+// A `&` behind which neither a `;` nor another `&` came: the range before it, and what was read behind it.
 #[derive(Clone, Copy)]
-struct Naming {
-    begun: bool,
+struct Begun {
     before: Range,
-    whole: Range,
     reading: Reading,
 }
+
+// What the bytes of a name come to so far: the range of all of them, with everything behind a `&` that begins a reference standing for itself.
+#[derive(Clone, Copy)]
+struct Naming {
+    whole: Range,
+    begun: Option<Begun>,
+}
+
+// Nothing is read behind a `&` yet.
+const UNREAD: Reading = Reading::Letters {
+    count: 0,
+    first: 0,
+    second: 0,
+    third: 0,
+    fourth: 0,
+};
 
 // The range with the bytes of a character.
 fn with_character(
@@ -39,26 +52,16 @@ fn with_character(
     ensures { result ≡ narrowed_all list.now starts.now ends.now order.now range (utf8 number) }
 {
     let bytes = encode(number);
-    let count = bytes.count;
-    if count == 0 {
-        return range;
+    let all = [bytes.first, bytes.second, bytes.third, bytes.fourth];
+    let mut longer = range;
+    for byte in &all[..bytes.count] {
+        longer = narrow(list, starts, ends, order, longer, *byte);
     }
-    let one = narrow(list, starts, ends, order, range, bytes.first);
-    if count == 1 {
-        return one;
-    }
-    let two = narrow(list, starts, ends, order, one, bytes.second);
-    if count == 2 {
-        return two;
-    }
-    let three = narrow(list, starts, ends, order, two, bytes.third);
-    if count == 3 {
-        return three;
-    }
-    narrow(list, starts, ends, order, three, bytes.fourth)
+    longer
 }
 
 // A `;` behind a reading: the range before its `&` with the character, or the range in which all of it stands for itself.
+#[tactic(auto, unfolding(crate::specs::Private::said_from))]
 fn said_by(
     list: &[u8],
     starts: &[usize],
@@ -78,6 +81,7 @@ fn said_by(
 }
 
 // One more byte of a name.
+#[tactic(auto, unfolding(crate::specs::Private::with_byte))]
 fn with_byte(
     list: &[u8],
     starts: &[usize],
@@ -88,47 +92,42 @@ fn with_byte(
 ) -> Naming
     ensures { result ≡ with_byte list.now starts.now ends.now order.now naming byte }
 {
-    let whole = naming.whole;
-    let before = naming.before;
-    let reading = naming.reading;
-    let longer = narrow(list, starts, ends, order, whole, byte);
+    let longer = narrow(list, starts, ends, order, naming.whole, byte);
     if byte == b'&' {
         return Naming {
-            begun: true,
-            before: whole,
             whole: longer,
-            reading: Reading::Letters {
-                count: 0,
-                first: 0,
-                second: 0,
-                third: 0,
-                fourth: 0,
-            },
+            begun: Some(Begun {
+                before: naming.whole,
+                reading: UNREAD,
+            }),
         };
     }
-    if !naming.begun {
+    let Some(begun) = naming.begun else {
         return Naming {
-            begun: false,
-            before,
             whole: longer,
-            reading,
+            begun: None,
         };
-    }
+    };
     if byte == b';' {
-        let said = said_by(list, starts, ends, order, before, longer, reading);
         return Naming {
-            begun: false,
-            before,
-            whole: said,
-            reading,
+            whole: said_by(
+                list,
+                starts,
+                ends,
+                order,
+                begun.before,
+                longer,
+                begun.reading,
+            ),
+            begun: None,
         };
     }
-    let later = read_next(reading, byte);
     Naming {
-        begun: true,
-        before,
         whole: longer,
-        reading: later,
+        begun: Some(Begun {
+            before: begun.before,
+            reading: read_next(begun.reading, byte),
+        }),
     }
 }
 
@@ -146,28 +145,15 @@ fn read_name(
     ensures { result ≡ narrowed_all list.now starts.now ends.now order.now range (decoded (chars_of (inside text.now place))) }
 {
     let mut naming = Naming {
-        begun: false,
-        before: range,
         whole: range,
-        reading: Reading::Letters {
-            count: 0,
-            first: 0,
-            second: 0,
-            third: 0,
-            fourth: 0,
-        },
+        begun: None,
     };
     let mut here = place;
-    loop {
-        let met = next_byte(text, here);
-        match met {
-            NextByte::Over(_) => return naming.whole,
-            NextByte::Byte { byte, next } => {
-                naming = with_byte(list, starts, ends, order, naming, byte);
-                here = next;
-            }
-        }
+    while let Ok(met) = next_byte(text, here) {
+        naming = with_byte(list, starts, ends, order, naming, met.byte);
+        here = met.next;
     }
+    naming.whole
 }
 
 // The range with the name of the element that the reader stands in: that of its first `name`, or no bytes without one.
@@ -182,9 +168,8 @@ pub fn own_name(
 ) -> Range
     ensures { result ≡ narrowed_all list.now starts.now ends.now order.now range (own_name (inside text.now (taken_for text.now place))) }
 {
-    let met = next_named(text, place, b"name");
-    let Named::At(next) = met else {
-        return range;
-    };
-    read_name(text, next, list, starts, ends, order, range)
+    match next_named(text, place, b"name") {
+        Ok(next) => read_name(text, next, list, starts, ends, order, range),
+        Err(_) => range,
+    }
 }

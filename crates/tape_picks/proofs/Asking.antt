@@ -1,5 +1,5 @@
 -- The lines that are asked for: how many, where their paths stand, in which order; and rows by line.
-use Prim.Native.Nat.{ℕ, zero, suc, ◌+◌, ◌-◌, ◌≤◌, ◌<◌, min}
+use Prim.Native.Nat.{ℕ, zero, suc, ◌-◌, ◌≤◌, ◌<◌, min}
 use mathlib.Core.Path.{◌≡◌, refl, ap, sym, ◌∙◌}
 use mathlib.Core.Bool.{Bool, true, false, cond, not, ◌&&◌, ◌||◌, true≢false, false≢true}
 use mathlib.Core.List.{List, [], ◌∷◌, ◌++◌}
@@ -10,8 +10,11 @@ use lib.ListN.{length, get_or, take, drop, length-append, length-drop, get_or-ap
 use lib.Seq.{take-suc, get_or-append_seam}
 use lib.Dec.{eqb, ltb, leb}
 use borrow.Author.Tests.{ltb-false, leb-true, lt-leb, le-leb, not-true, not-false}
+use Rattle.std.specs.Prelude.{Result}
+use Rattle.std.specs.Result.{is_err}
 use Rattle.refusals.specs.declared.Refusal.TheVariants.{BadLine, TooManyReads}
-use Rattle.refusals.specs.Refusals.{is_refusal, refuse_if, refuse_at, first_of, one_more, first_where}
+use Rattle.refusals.specs.declared.Verdict.{Verdict}
+use Rattle.refusals.specs.Refusals.{checked, is_refusal, refuse_if, refuse_at, first_of, one_more, first_where}
 use Rattle.text_bytes.specs.Text.{line_feed, has, before, behind}
 use Rattle.text_bytes.proofs.Bytes.{and_true_both}
 use Rattle.text_lines.specs.Lines.{line_of, after_lines, line_after, first_bad_of, each_of, held_in}
@@ -147,6 +150,14 @@ lines_fit list states starts ends =
         let good = accepted_list list (not-true (is_refusal (paths_verdict list).refusal) one.0) in
         record { none = good.0; few = good.1; rows = (leb-true (line_count list) states one.1, leb-true (line_count list) starts two.1, leb-true (line_count list) ends three.1) }
     go false e = record { none = refl; few = omega arith; rows = (omega arith, omega arith, omega arith) }
+
+-- What is answered to a list is an error where its verdict refuses.
+pub list_says : (list : List ℕ) (r : Result Unit Verdict) → r ≡ checked (paths_verdict list) → is_err r ≡ is_refusal (paths_verdict list).refusal
+list_says list r e = go (is_refusal (paths_verdict list).refusal) refl
+  where
+    go : (b : Bool) → is_refusal (paths_verdict list).refusal ≡ b → is_err r ≡ is_refusal (paths_verdict list).refusal
+    go true h = rw (e, h) refl
+    go false h = rw (e, h) refl
 
 -- The same as they are counted.
 module _ (list : List ℕ) (states starts ends : ℕ) where

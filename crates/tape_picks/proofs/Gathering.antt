@@ -1,6 +1,7 @@
 -- All files of an index noted one by one: each line has what the files met so far come to, and those left are the others.
-use Prim.Native.Nat.{ℕ, ◌+◌, ◌≤◌, ◌<◌}
-use mathlib.Core.Path.{◌≡◌, refl, ap, sym, ◌∙◌}
+use Prim.Native.Nat.{ℕ, ◌≤◌, ◌<◌}
+use mathlib.Core.Path.{◌≡◌, refl, ap, sym, ◌∙◌, subst}
+use Rattle.std.specs.Prelude.{Option, Some, None}
 use mathlib.Core.Bool.{Bool, true, false, cond, ◌&&◌, true≢false, and-true, and_assoc}
 use mathlib.Core.List.{List, [], ◌∷◌, ◌++◌, map, append-nil, append_assoc}
 use mathlib.Core.Logic.{by_cases}
@@ -21,6 +22,7 @@ use Rattle.tape_markup.specs.Tree.{is_balanced, tree_of}
 use Rattle.tape_markup.specs.Promises.{depth}
 use Rattle.tape_markup.proofs.Balanced.{balanced_exactly, tree_is_the_forest}
 use Rattle.tape_spans.specs.declared.Span.{Span}
+use Rattle.tape_spans.specs.Spans.{no_span}
 use Rattle.tape_files.specs.Index.{every, is_good_extent, index_files}
 use Rattle.tape_files.specs.NamedFiles.{NamedFile, named_files}
 use Rattle.tape_files.specs.Elements.{frames_at, level_at}
@@ -31,7 +33,7 @@ use Rattle.tape_picks.specs.declared.walk.Walk.{Walk}
 use Rattle.tape_picks.specs.declared.walk.Met.{Met}
 use Rattle.tape_picks.specs.Picks.{files_named, file_span, has_no_bytes, no_pick, one_pick, pick_of}
 use Rattle.tape_picks.specs.Private.{noted_pick, ends_at, ListHeld, FileNoted, no_file, ranged_from, named_under, named_left, WalkAt, FileMet, MetAt, walk_start}
-use Rattle.tape_picks.proofs.Extents.{ranged_good, ranged_span}
+use Rattle.tape_picks.proofs.Extents.{good_of, ranged_good, ranged_span}
 
 -- A text is itself, and begins with itself.
 starts_self : (a : List ℕ) → starts_with a a ≡ true
@@ -84,11 +86,11 @@ all_good : (text : List ℕ) → every is_good_file (named_files (tree_of text))
 all_good text = every_extents (named_files (tree_of text)) ∙ ap (every (every is_good_extent)) (files_are_the_table (tree_of text))
 
 -- What the walk has met so far, and what is left of it.
-pub record Gathering (text list starts ends order : List ℕ) (count : ℕ) (tape : Tape) (rows : ℕ → Pick) (walk : Walk) : Type 0 where
+pub record Gathering (text list starts ends order : List ℕ) (count : ℕ) (tape : Tape) (rows : ℕ → Pick) (walk : Option Walk) : Type 0 where
   pub own : List ℕ
   pub outer : List (List ℕ)
   pub met : List NamedFile
-  pub at : walk.over ≡ false → WalkAt text (path_at list starts ends order) count own outer walk
+  pub at : (next : Walk) → walk ≡ Some next → WalkAt text (path_at list starts ends order) count own outer next
   pub all : met ++ named_left text (own ∷ outer) walk ≡ named_files (tree_of text)
   pub good : every is_good_file met ≡ true
   pub notes : (k : ℕ) → k < count → rows (get_or order k 0) ≡ pick_of tape (files_named (path_at list starts ends order k) met)
@@ -101,7 +103,7 @@ module _ (text list starts ends order : List ℕ) (count : ℕ) (held : ListHeld
   shallow_text e = let f = (balanced_exactly text).0 e in rw (tree_is_the_forest text f.0 f.2) f.1
 
   pub gathering_none : is_balanced text ≡ true → (rows : ℕ → Pick) → ((k : ℕ) → k < count → rows (get_or order k 0) ≡ no_pick) →
-      (walk : Walk) → walk ≡ walk_start count → Gathering text list starts ends order count tape rows walk
+      (walk : Walk) → walk ≡ walk_start count → Gathering text list starts ends order count tape rows (Some walk)
   unfolding files_named pick_of named_left named_under named_files frames_at tokens_at tree_of level_at every
   gathering_none e rows zeros walk is =
       let s = shallow_text e in
@@ -110,7 +112,10 @@ module _ (text list starts ends order : List ℕ) (count : ℕ) (held : ListHeld
         own = [];
         outer = [];
         met = [];
-        at = λ o. record { deep = refl; within = omega arith; shallow = (omega arith, tt); ranges = (holds_all path count, tt); room = refl };
+        at = λ next same.
+            let first : WalkAt text path count [] [] (walk_start count) = record { deep = refl; within = omega arith; shallow = (omega arith, tt); ranges = (holds_all path count, tt); room = refl } in
+            let start : walk_start count ≡ next = cc in
+            subst (λ (k : Walk). WalkAt text path count [] [] k) start first;
         all = append-nil (named_files (tree_of text));
         good = refl;
         notes = zeros;
@@ -165,59 +170,62 @@ module _ (text list starts ends order : List ℕ) (count : ℕ) (held : ListHeld
           go false e = as_before e ∙ notes k l ∙ sym (ap (pick_of tape) (same_files_here e))
 
   -- One step more.
-  module _ (rows : ℕ → Pick) (walk : Walk) (g : Gathering text list starts ends order count tape rows walk) (going : walk.over ≡ false) (r : Met)
+  module _ (rows : ℕ → Pick) (walk : Walk) (g : Gathering text list starts ends order count tape rows (Some walk)) (r : Met)
       (m : MetAt text path count tape (g.own ∷ g.outer) walk r) where
     all_left : (g.met ++ m.files) ++ named_left text (m.own ∷ m.outer) r.walk ≡ named_files (tree_of text)
     unfolding named_left
     all_left =
         append_assoc g.met m.files (named_left text (m.own ∷ m.outer) r.walk)
         ∙ ap (λ (l : List NamedFile). g.met ++ l) (sym m.left)
-        ∙ ap (λ (t : Bool). g.met ++ cond t [] (named_under (g.own ∷ g.outer) (frames_at text walk.place))) (sym going)
         ∙ g.all
 
-    file_good_here : (f : NamedFile) → r.file ≡ ranged_from tape no_file f.extents → r.file.good ≡ is_good_file f
+    file_good_here : (f : NamedFile) → r.file ≡ ranged_from tape no_file f.extents → good_of r.file ≡ is_good_file f
     file_good_here f e = rw e (ranged_good tape no_file f.extents)
 
-    met_good : (files : List NamedFile) → FileMet path count tape files r → r.file.good ≡ true → every is_good_file files ≡ true
+    met_good : (files : List NamedFile) → FileMet path count tape files r → good_of r.file ≡ true → every is_good_file files ≡ true
     unfolding every
     met_good [] p e = refl
     met_good (f ∷ []) p e = and-true (is_good_file f) ∙ sym (file_good_here f p.1) ∙ e
     met_good (f ∷ h ∷ files) p e = absurd p
 
-    met_bad : (files : List NamedFile) → FileMet path count tape files r → r.file.good ≡ false → every is_good_file files ≡ false
+    met_bad : (files : List NamedFile) → FileMet path count tape files r → good_of r.file ≡ false → every is_good_file files ≡ false
     unfolding every
-    met_bad [] p e = absurd (true≢false (sym p.2 ∙ e))
+    met_bad [] p e = absurd (true≢false (ap good_of (sym p.2) ∙ e))
     met_bad (f ∷ []) p e = and-true (is_good_file f) ∙ sym (file_good_here f p.1) ∙ e
     met_bad (f ∷ h ∷ files) p e = absurd p
 
-    met_notes : (files : List NamedFile) → FileMet path count tape files r → r.file.good ≡ true → (after : ℕ → Pick) → FileNoted starts ends order count r.range r.file.span rows after
-        → (k : ℕ) → k < count → after (get_or order k 0) ≡ pick_of tape (files_named (path k) (g.met ++ files))
-    met_notes [] p e after noted k l = notes_none g.met rows after r.range r.file.span noted g.notes p.0 k l
-    met_notes (f ∷ []) p e after noted k l =
-        let good : is_good_file f ≡ true = sym (file_good_here f p.1) ∙ e in
-        notes_one g.met rows after r.range r.file.span noted g.notes f p.0 (rw p.1 (ranged_span tape no_file f.extents good)) k l
-    met_notes (f ∷ h ∷ files) p e after noted k l = absurd p
+    module _ (span : Span) (e : r.file ≡ Some span) where
+      met_span : (f : NamedFile) → r.file ≡ ranged_from tape no_file f.extents → span ≡ file_span tape f
+      met_span f p =
+          let good : is_good_file f ≡ true = sym (file_good_here f p) ∙ ap good_of e in
+          let same : Some span ≡ Some (file_span tape f) = sym e ∙ p ∙ ranged_span tape no_span f.extents good in
+          cc
 
-    pub gathering_more : r.file.good ≡ true → (after : ℕ → Pick) → FileNoted starts ends order count r.range
-        r.file.span rows after → Gathering text list starts ends order count tape after r.walk
-    gathering_more e after noted =
-        record {
-          own = m.own;
-          outer = m.outer;
-          met = g.met ++ m.files;
-          at = m.at;
-          all = all_left;
-          good = every_append g.met m.files ∙ rw (g.good, met_good m.files m.met e);
-          notes = met_notes m.files m.met e after noted;
-        }
+      met_notes : (files : List NamedFile) → FileMet path count tape files r → (after : ℕ → Pick) → FileNoted starts ends order count r.range span rows after
+          → (k : ℕ) → k < count → after (get_or order k 0) ≡ pick_of tape (files_named (path k) (g.met ++ files))
+      met_notes [] p after noted k l = notes_none g.met rows after r.range span noted g.notes p.0 k l
+      met_notes (f ∷ []) p after noted k l = notes_one g.met rows after r.range span noted g.notes f p.0 (met_span f p.1) k l
+      met_notes (f ∷ h ∷ files) p after noted k l = absurd p
 
-    pub gathering_bad : r.file.good ≡ false → false ≡ every (every is_good_extent) (index_files (tree_of text))
+      pub gathering_more : (after : ℕ → Pick) → FileNoted starts ends order count r.range span rows after → Gathering text list starts ends order count tape after r.walk
+      gathering_more after noted =
+          record {
+            own = m.own;
+            outer = m.outer;
+            met = g.met ++ m.files;
+            at = m.at;
+            all = all_left;
+            good = every_append g.met m.files ∙ rw (g.good, met_good m.files m.met (ap good_of e));
+            notes = met_notes m.files m.met after noted;
+          }
+
+    pub gathering_bad : r.file ≡ None → false ≡ every (every is_good_extent) (index_files (tree_of text))
     gathering_bad e =
         sym
         (sym (all_good text)
         ∙ ap (every is_good_file) (sym all_left)
         ∙ every_append (g.met ++ m.files) (named_left text (m.own ∷ m.outer) r.walk)
-        ∙ rw (every_append g.met m.files, g.good, met_bad m.files m.met e))
+        ∙ rw (every_append g.met m.files, g.good, met_bad m.files m.met (ap good_of e)))
 
     -- Where the lines to be noted lie.
     pub met_high : r.range.high ≤ count
@@ -228,11 +236,10 @@ module _ (text list starts ends order : List ℕ) (count : ℕ) (held : ListHeld
         go (f ∷ []) p = p.0.within
         go (f ∷ h ∷ files) p = absurd p
 
-  module _ (rows : ℕ → Pick) (walk : Walk) (g : Gathering text list starts ends order count tape rows walk) (over : walk.over ≡ true) where
+  module _ (rows : ℕ → Pick) (g : Gathering text list starts ends order count tape rows None) where
     met_all : g.met ≡ named_files (tree_of text)
     unfolding named_left
-    met_all =
-        sym (append-nil g.met) ∙ ap (λ (t : Bool). g.met ++ cond t [] (named_under (g.own ∷ g.outer) (frames_at text walk.place))) (sym over) ∙ g.all
+    met_all = sym (append-nil g.met) ∙ g.all
 
     pub gathering_good : true ≡ every (every is_good_extent) (index_files (tree_of text))
     gathering_good = sym (sym (all_good text) ∙ ap (every is_good_file) (sym met_all) ∙ g.good)

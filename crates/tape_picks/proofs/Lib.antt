@@ -1,6 +1,5 @@
 -- Laws that this crate's proofs share, and those that other crates cite.
 pub mod Noting
-pub mod Handing
 pub mod Extents
 pub mod Ranges
 pub mod Walking

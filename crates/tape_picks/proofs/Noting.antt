@@ -1,22 +1,16 @@
 -- A file noted at the lines of its path, place by place of the order.
-use Prim.Native.Nat.{ℕ, ◌+◌, ◌-◌, ◌≤◌, ◌<◌, max}
-use mathlib.Core.Path.{◌≡◌, refl, sym, ◌∙◌}
-use mathlib.Core.Bool.{Bool, true}
+use Prim.Native.Nat.{ℕ, ◌+◌, ◌≤◌, ◌<◌, max}
+use mathlib.Core.Path.{◌≡◌, ◌∙◌}
+use mathlib.Core.Bool.{Bool}
 use mathlib.Core.List.{List}
 use mathlib.Core.Logic.{by_cases}
 use native.Mathlib.Omega.{arith}
 use native.Mathlib.Decide.{ℕ_discrete}
-use lib.ListN.{length, get_or, set, length-set}
+use lib.ListN.{length, get_or, set}
 use lib.Seq.{get_or-set_same, get_or-set_other}
-use lib.Dec.{leb}
-use borrow.Author.Tests.{le-leb}
 use Rattle.tape_spans.specs.declared.Span.{Span}
 use Rattle.tape_picks.specs.declared.Pick.{Pick}
-use Rattle.tape_picks.specs.Private.{pick_in, noted_pick, ends_at, OrderHeld, AllFit, FileNoted}
-
--- Nothing is no longer than anything.
-pub nothing_short : (start end length : ℕ) → end ≤ start → true ≡ leb (end - start) length
-nothing_short start end length l = sym (le-leb (end - start) length (omega arith))
+use Rattle.tape_picks.specs.Private.{pick_in, noted_pick, ends_at, OrderHeld, AllFit}
 
 -- A line's entries written, and those of another line.
 module _ (states starts ends : List ℕ) (line : ℕ) (next : Pick) where
@@ -38,9 +32,6 @@ pub record Noting (from to order : List ℕ) (count low high length : ℕ) (span
   pub outside : (j : ℕ) → j < count → ((low ≤ j) × (j < k) → ⊥) → after (get_or order j 0) ≡ before (get_or order j 0)
 
 module _ (from to order : List ℕ) (count low high length : ℕ) (span : Span) where
-  pub noting_none : (before : ℕ → Pick) → Noting from to order count low high length span before before low
-  noting_none before = record { begun = omega arith; few = omega arith; inside = λ j a b. absurd (omega arith); outside = λ j a b. refl }
-
   module _ (held : OrderHeld order count) (before : ℕ → Pick) (states starts ends : List ℕ) (fit : AllFit count states starts ends) (k : ℕ)
       (p : Noting from to order count low high length span before (pick_in states starts ends) k) (l : k < high) (m : high ≤ count) where
     pub line_within : get_or order k 0 < count
@@ -66,14 +57,3 @@ module _ (from to order : List ℕ) (count low high length : ℕ) (span : Span) 
             (written_here states starts ends (get_or order k 0) next (omega (arith, fit.0)) (omega (arith, fit.1.0)) (omega (arith, fit.1.1))
             ∙ e
             ∙ rw (h, p.outside k (omega arith) (λ q. omega (arith, q.1))))
-
-  pub noting_done : (before after : ℕ → Pick) (k : ℕ) → Noting from to order count low high length span before after k → high ≤ k
-      → FileNoted from to order count (record { low = low; high = high; length = length }) span before after
-  noting_done before after k p l =
-      record {
-        inside = λ j a b d. p.inside j b (omega arith);
-        outside = λ j a n. p.outside j a (λ q. n (q.0, omega (arith, p.few, q.1)));
-      }
-
-pub set_long : (row : List ℕ) (i v n : ℕ) → length row ≡ n → length (set row i v) ≡ n
-set_long row i v n e = length-set row i v ∙ e

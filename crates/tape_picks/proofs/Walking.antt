@@ -1,7 +1,7 @@
 -- The walk through an index: the files left, here and outwards, are those left before; no more than 32 elements are open; each element around has its range.
 use Prim.Native.Nat.{ℕ, suc, ◌+◌, ◌≤◌, ◌<◌, max}
 use mathlib.Core.Path.{◌≡◌, refl, ap, sym, ◌∙◌, subst}
-use mathlib.Core.Bool.{true, false, true≢false}
+use Rattle.std.specs.Prelude.{Option, Some, None}
 use mathlib.Core.List.{List, [], ◌∷◌, ◌++◌, append_assoc}
 use native.Mathlib.Omega.{arith}
 use lib.ListN.{length, set, length-set}
@@ -19,7 +19,7 @@ use Rattle.tape_files.specs.Elements.{frames_at, inside, Left, bare, ElementMet,
 use Rattle.tape_picks.specs.declared.Tape.{Tape}
 use Rattle.tape_picks.specs.declared.walk.Walk.{Walk}
 use Rattle.tape_picks.specs.declared.walk.Met.{Met}
-use Rattle.tape_picks.specs.Private.{moved_to, over_at, out_at, left_to, entered_at, no_range, passed_by, named_under, named_left, Shallow, RangesFor, WalkAt, walk_size, FileRead, MetAt}
+use Rattle.tape_picks.specs.Private.{moved_to, out_at, left_to, entered_at, no_range, passed_by, named_under, named_left, Shallow, RangesFor, WalkAt, walk_size, FileRead, MetAt}
 
 -- Bytes before the first element hold no file, and are not deep.
 named_bare : (f : Forest) (level : Level) (path : List ℕ) → named_in (bare f) level path ≡ named_in f level path
@@ -112,24 +112,29 @@ ranges_kept path count (own ∷ outer) ranges i r l p =
     (rw (get_or-set_other ranges i (length outer) r no_range n) p.0, ranges_kept path count outer ranges i r (omega arith) p.1)
 
 -- Less is left of a walk that goes on.
-size_less : (text : List ℕ) (walk next : Walk) → walk.over ≡ false → next.over ≡ false
+size_less : (text : List ℕ) (walk next : Walk)
     → length (tokens_at text next.place) + length (tokens_at text next.place) + next.depth < length (tokens_at text walk.place) + length (tokens_at text walk.place) + walk.depth
-    → walk_size text next < walk_size text walk
+    → walk_size text (Some next) < walk_size text (Some walk)
 unfolding walk_size
-size_less text walk next a b l = rw (a, b) (omega arith)
+size_less text walk next l = omega arith
 
-size_over : (text : List ℕ) (walk next : Walk) → walk.over ≡ false → next.over ≡ true → walk_size text next < walk_size text walk
+size_over : (text : List ℕ) (walk : Walk) → walk_size text None < walk_size text (Some walk)
 unfolding walk_size
-size_over text walk next a b = rw (a, b) (omega arith)
+size_over text walk = omega arith
 
-left_going : (text : List ℕ) (paths : List (List ℕ)) (walk : Walk) → walk.over ≡ false → named_under paths (frames_at text walk.place) ≡ named_left text paths walk
+left_going : (text : List ℕ) (paths : List (List ℕ)) (walk : Walk) → named_under paths (frames_at text walk.place) ≡ named_left text paths (Some walk)
 unfolding named_left
-left_going text paths walk e = rw e
+left_going text paths walk = refl
 
-module _ (text : List ℕ) (path : ℕ → List ℕ) (count : ℕ) (tape : Tape) (walk : Walk) (going : walk.over ≡ false) where
+module _ (text : List ℕ) (path : ℕ → List ℕ) (count : ℕ) (tape : Tape) (walk : Walk) where
+  at_next : (own : List ℕ) (outer : List (List ℕ)) (next : Walk) → WalkAt text path count own outer next → (later : Walk) → Some next ≡ Some later → WalkAt text path count own outer later
+  at_next own outer next w later e =
+      let same : next ≡ later = cc in
+      subst (λ (k : Walk). WalkAt text path count own outer k) same w
+
   -- What a step comes to on which no file is met.
-  step_passed : (own : List ℕ) (outer : List (List ℕ)) (next : Walk) (own' : List ℕ) (outer' : List (List ℕ)) → (next.over ≡ false → WalkAt text path count own' outer' next)
-      → named_under (own ∷ outer) (frames_at text walk.place) ≡ named_left text (own' ∷ outer') next → walk_size text next < walk_size text walk → MetAt text path count tape
+  step_passed : (own : List ℕ) (outer : List (List ℕ)) (next : Option Walk) (own' : List ℕ) (outer' : List (List ℕ)) → ((k : Walk) → next ≡ Some k → WalkAt text path count own' outer' k)
+      → named_under (own ∷ outer) (frames_at text walk.place) ≡ named_left text (own' ∷ outer') next → walk_size text next < walk_size text (Some walk) → MetAt text path count tape
       (own ∷ outer) walk (passed_by next)
   step_passed own outer next own' outer' at left fewer =
       record { own = own'; outer = outer'; files = []; at = at; left = left; met = (omega arith, omega arith, refl); fewer = fewer }
@@ -140,16 +145,17 @@ module _ (text : List ℕ) (path : ℕ → List ℕ) (count : ℕ) (tape : Tape)
   unfolding left_to named_left named_under
   met_left own [] w next n =
       rw (eq-eqb walk.depth 0 w.deep)
-      (step_passed own [] (over_at walk next) [] [] (λ e. absurd (true≢false e)) (named_out text walk.place own [] next n) (size_over text walk (over_at walk next) going refl))
+      (step_passed own [] None [] [] (λ k e. cc) (named_out text walk.place own [] next n) (size_over text walk))
   met_left own (around ∷ outer) w next n =
       let some : walk.depth ≡ 0 → ⊥ = λ e. omega (arith, w.deep) in
       let t = n.left.fewer in
       let d = w.deep in
       rw (ne_eqb walk.depth 0 some)
-      (step_passed own (around ∷ outer) (out_at walk next) around outer
-      (λ e. record { deep = omega arith; within = n.left.within; shallow = shallow_out text walk.place own (around ∷ outer) next n w.shallow; ranges = w.ranges.1; room = w.room })
-      (named_out text walk.place own (around ∷ outer) next n ∙ left_going text (around ∷ outer) (out_at walk next) going)
-      (size_less text walk (out_at walk next) going going (omega arith)))
+      (step_passed own (around ∷ outer) (Some (out_at walk next)) around outer
+      (at_next around outer (out_at walk next)
+      (record { deep = omega arith; within = n.left.within; shallow = shallow_out text walk.place own (around ∷ outer) next n w.shallow; ranges = w.ranges.1; room = w.room }))
+      (named_out text walk.place own (around ∷ outer) next n ∙ left_going text (around ∷ outer) (out_at walk next))
+      (size_less text walk (out_at walk next) (omega arith)))
 
   module _ (own : List ℕ) (outer : List (List ℕ)) (w : WalkAt text path count own outer walk) (from to : ℕ) (next : Place) (m : ElementMet text walk.place from to next) where
     abbrev here-role : Role
@@ -166,17 +172,17 @@ module _ (text : List ℕ) (path : ℕ → List ℕ) (count : ℕ) (tape : Tape)
     moved_at after l =
         record { deep = w.deep; within = l.within; shallow = shallow_past text walk.place own outer from to next m after l w.shallow; ranges = w.ranges; room = w.room }
 
-    moved_less : (after : Place) → Left text next after → walk_size text (moved_to walk after) < walk_size text walk
-    moved_less after l = let a = m.fewer in let b = l.fewer in size_less text walk (moved_to walk after) going going (omega arith)
+    moved_less : (after : Place) → Left text next after → walk_size text (Some (moved_to walk after)) < walk_size text (Some walk)
+    moved_less after l = let a = m.fewer in let b = l.fewer in size_less text walk (moved_to walk after) (omega arith)
 
-    pub met_moved : (after : Place) → Left text next after → here-role ≡ other → MetAt text path count tape (own ∷ outer) walk (passed_by (moved_to walk after))
+    pub met_moved : (after : Place) → Left text next after → here-role ≡ other → MetAt text path count tape (own ∷ outer) walk (passed_by (Some (moved_to walk after)))
     met_moved after l r =
-        step_passed own outer (moved_to walk after) own outer (λ e. moved_at after l)
-        (named_past text walk.place own outer from to next m after l (role_is other r) ∙ left_going text (own ∷ outer) (moved_to walk after) going)
+        step_passed own outer (Some (moved_to walk after)) own outer (at_next own outer (moved_to walk after) (moved_at after l))
+        (named_past text walk.place own outer from to next m after l (role_is other r) ∙ left_going text (own ∷ outer) (moved_to walk after))
         (moved_less after l)
 
     pub met_entered : here-role ≡ holds (level_at (suc walk.depth)) → (range : Range) → RangeHolds path count (path_below (level_at (length outer)) own (inside text next)) range
-        → MetAt text path count tape (own ∷ outer) walk (passed_by (entered_at walk next range))
+        → MetAt text path count tape (own ∷ outer) walk (passed_by (Some (entered_at walk next range)))
     met_entered r range held =
         let d = w.deep in
         let a = m.fewer in
@@ -184,9 +190,9 @@ module _ (text : List ℕ) (path : ℕ → List ℕ) (count : ℕ) (tape : Tape)
         let f : holds (level_at (suc walk.depth)) ≡ holds (level_at (suc (length outer))) = ap (λ (k : ℕ). holds (level_at (suc k))) d in
         let deep = deep_enough in
         let room = w.room in
-        step_passed own outer (entered_at walk next range) (path_below (level_at (length outer)) own (inside text next)) (own ∷ outer)
-        (λ o.
-        record {
+        step_passed own outer (Some (entered_at walk next range)) (path_below (level_at (length outer)) own (inside text next)) (own ∷ outer)
+        (at_next (path_below (level_at (length outer)) own (inside text next)) (own ∷ outer) (entered_at walk next range)
+        (record {
           deep = e;
           within = m.within;
           shallow = shallow_in text walk.place own outer from to next m (path_below (level_at (length outer)) own (inside text next)) w.shallow;
@@ -195,23 +201,23 @@ module _ (text : List ℕ) (path : ℕ → List ℕ) (count : ℕ) (tape : Tape)
             ranges_kept path count (own ∷ outer) walk.ranges (walk.depth + 1) range (omega arith) w.ranges,
           );
           room = length-set walk.ranges (walk.depth + 1) range ∙ room;
-        })
-        (named_in_here text walk.place own outer from to next m (role_is (holds (level_at (suc walk.depth))) r ∙ f) ∙ left_going text _ (entered_at walk next range) going)
-        (size_less text walk (entered_at walk next range) going going (omega arith))
+        }))
+        (named_in_here text walk.place own outer from to next m (role_is (holds (level_at (suc walk.depth))) r ∙ f) ∙ left_going text _ (entered_at walk next range))
+        (size_less text walk (entered_at walk next range) (omega arith))
 
     pub met_read : here-role ≡ file → (named : Range) → RangeHolds path count (own ++ own_name (inside text next)) named → (r : Met) → FileRead text tape named walk next r
         → MetAt text path count tape (own ∷ outer) walk r
     met_read e named held r f =
-        let after = r.walk.place in
+        let after = f.after in
         record {
           own = own;
           outer = outer;
           files = record { path = own ++ own_name (inside text next); extents = extents_of (inside text next) } ∷ [];
-          at = λ o. rw f.walked (moved_at after f.left);
+          at = λ k e. at_next own outer (moved_to walk after) (moved_at after f.left) k (sym f.walked ∙ e);
           left =
               named_file_here text walk.place own outer from to next m after f.left (role_is file e)
               ∙ ap (λ (l : List NamedFile). record { path = own ++ own_name (inside text next); extents = extents_of (inside text next) } ∷ l)
-              (left_going text (own ∷ outer) r.walk (ap (λ (k : Walk). k.over) f.walked ∙ going));
+              (left_going text (own ∷ outer) (moved_to walk after) ∙ ap (named_left text (own ∷ outer)) (sym f.walked));
           met = (rw f.range held, f.file);
           fewer = rw f.walked (moved_less after f.left);
         }

@@ -1,5 +1,5 @@
 -- What the private functions ask and find. No public contract cites this file.
-use Rattle.std.specs.Prelude.{ℕ, suc, ◌+◌, ◌-◌, ◌≤◌, ◌<◌, ◌≡◌, Bool, true, false, cond, ◌&&◌, List, [], ◌∷◌, ◌++◌, length, get_or, set, replicate, eqb, leb}
+use Rattle.std.specs.Prelude.{ℕ, suc, ◌+◌, ◌-◌, ◌≤◌, ◌<◌, ◌≡◌, Bool, true, false, cond, Option, Some, None, List, [], ◌∷◌, ◌++◌, length, get_or, set, replicate, eqb, leb}
 use Prim.Native.Char.{code}
 use Rattle.text_order.specs.declared.Range.{Range}
 use Rattle.text_order.specs.Order.{line_at, path_at, narrowed_in, narrowed_all}
@@ -18,7 +18,6 @@ use Rattle.tape_files.specs.Elements.{frames_at, inside, Left, level_at}
 use Rattle.tape_files.specs.Values.{value_in, extent_of, extent_is_good}
 use Rattle.tape_picks.specs.declared.Tape.{Tape}
 use Rattle.tape_picks.specs.declared.Pick.{Pick}
-use Rattle.tape_picks.specs.declared.files.Ranged.{Ranged}
 use Rattle.tape_picks.specs.declared.walk.Walk.{Walk}
 use Rattle.tape_picks.specs.declared.walk.Met.{Met}
 use Rattle.tape_picks.specs.Picks.{files_named, no_pick, several_picks, one_pick, pick_of, answered_row}
@@ -63,23 +62,20 @@ pub record FileNoted (from to order : List ℕ) (count : ℕ) (range : Range) (s
       → after (get_or order k 0) ≡ noted_pick (before (get_or order k 0)) span (ends_at from to (get_or order k 0) range.length)
   pub outside : (k : ℕ) → k < count → ((range.low ≤ k) × (k < range.high) → ⊥) → after (get_or order k 0) ≡ before (get_or order k 0)
 
--- A file with one extent more, with many more, and none yet.
+-- The range of a file with one extent more, with many more, and with none yet; none where one of them is bad.
 abbrev pub said_extent : ExtentSaid → Extent
 said_extent e = record { partition = value_in e.partition; block = value_in e.block; offset = value_in e.offset; count = value_in e.count }
 
-unfoldable pub ranged_with : Tape → Ranged → ExtentSaid → Ranged
-ranged_with tape f e =
-    record {
-      good = f.good && extent_is_good e;
-      span = span_with tape.unit tape.size tape.partition f.span (said_extent e);
-    }
+unfoldable pub ranged_with : Tape → Option Span → ExtentSaid → Option Span
+ranged_with tape None e = None
+ranged_with tape (Some span) e = cond (extent_is_good e) (Some (span_with tape.unit tape.size tape.partition span (said_extent e))) None
 
-unfoldable pub ranged_from : Tape → Ranged → List Forest → Ranged
+unfoldable pub ranged_from : Tape → Option Span → List Forest → Option Span
 ranged_from tape f [] = f
 ranged_from tape f (extent ∷ extents) = ranged_from tape (ranged_with tape f (extent_of extent)) extents
 
-abbrev pub no_file : Ranged
-no_file = record { good = true; span = no_span }
+abbrev pub no_file : Option Span
+no_file = Some no_span
 
 -- The range with a name, and below an element that is looked at.
 unfoldable pub named_range : List ℕ → List ℕ → List ℕ → List ℕ → Range → Forest → Range
@@ -97,27 +93,24 @@ slashed list starts ends order range = narrowed_in list starts ends order range 
 unfoldable pub below_range : List ℕ → List ℕ → List ℕ → List ℕ → Range → ℕ → Forest → Range
 below_range list starts ends order range depth held = cond (is_contents (level_at depth)) (slashed list starts ends order (named_range list starts ends order range held)) range
 
--- A walk at another place, past the end of an element, and in an element.
+-- A walk at another place, past the end of an element, where it may be over, and in an element.
 abbrev pub moved_to : Walk → Place → Walk
-moved_to walk place = record { over = walk.over; depth = walk.depth; place = place; ranges = walk.ranges }
-
-abbrev pub over_at : Walk → Place → Walk
-over_at walk place = record { over = true; depth = 0; place = place; ranges = walk.ranges }
+moved_to walk place = record { depth = walk.depth; place = place; ranges = walk.ranges }
 
 abbrev pub out_at : Walk → Place → Walk
-out_at walk place = record { over = walk.over; depth = walk.depth - 1; place = place; ranges = walk.ranges }
+out_at walk place = record { depth = walk.depth - 1; place = place; ranges = walk.ranges }
 
-unfoldable pub left_to : Walk → Place → Walk
-left_to walk place = cond (eqb walk.depth 0) (over_at walk place) (out_at walk place)
+unfoldable pub left_to : Walk → Place → Option Walk
+left_to walk place = cond (eqb walk.depth 0) None (Some (out_at walk place))
 
 abbrev pub entered_at : Walk → Place → Range → Walk
 entered_at walk place range =
-    record { over = walk.over; depth = walk.depth + 1; place = place; ranges = set walk.ranges (walk.depth + 1) range }
+    record { depth = walk.depth + 1; place = place; ranges = set walk.ranges (walk.depth + 1) range }
 
 abbrev pub no_range : Range
 no_range = record { low = 0; high = 0; length = 0 }
 
-abbrev pub passed_by : Walk → Met
+abbrev pub passed_by : Option Walk → Met
 passed_by walk = record { walk = walk; range = no_range; file = no_file }
 
 -- The files from a place on, in the elements around it that are looked at, innermost first, with the path so far in each.
@@ -125,8 +118,9 @@ unfoldable pub named_under : List (List ℕ) → List Forest → List NamedFile
 named_under [] left = []
 named_under (own ∷ outer) left = named_in (innermost left) (level_at (length outer)) own ++ named_under outer (enclosing left)
 
-unfoldable pub named_left : List ℕ → List (List ℕ) → Walk → List NamedFile
-named_left text paths walk = cond walk.over [] (named_under paths (frames_at text walk.place))
+unfoldable pub named_left : List ℕ → List (List ℕ) → Option Walk → List NamedFile
+named_left text paths None = []
+named_left text paths (Some walk) = named_under paths (frames_at text walk.place)
 
 -- No more than 32 elements are open there or anywhere further on.
 abbrev pub Shallow : List (List ℕ) → List Forest → Type 0
@@ -151,12 +145,13 @@ pub record SomeWalk (text : List ℕ) (path : ℕ → List ℕ) (count : ℕ) (w
   pub at : WalkAt text path count own outer walk
 
 -- How much is left of a walk: each element met takes a token, each left goes outwards.
-unfoldable pub walk_size : List ℕ → Walk → ℕ
-walk_size text walk = cond walk.over 0 (suc (length (tokens_at text walk.place) + length (tokens_at text walk.place) + walk.depth))
+unfoldable pub walk_size : List ℕ → Option Walk → ℕ
+walk_size text None = 0
+walk_size text (Some walk) = suc (length (tokens_at text walk.place) + length (tokens_at text walk.place) + walk.depth)
 
--- A file that is met, or none: the range of its path, whether its extents are good, and its range on the tape.
+-- A file that is met, or none: the range of its path, and its range on the tape where its extents are good.
 abbrev pub FileMet : (ℕ → List ℕ) → ℕ → Tape → List NamedFile → Met → Type 0
-FileMet path count tape [] met = (met.range.high ≤ met.range.low) × (met.range.high ≤ count) × (met.file.good ≡ true)
+FileMet path count tape [] met = (met.range.high ≤ met.range.low) × (met.range.high ≤ count) × (met.file ≡ no_file)
 FileMet path count tape (f ∷ []) met = RangeHolds path count f.path met.range × (met.file ≡ ranged_from tape no_file f.extents)
 FileMet path count tape (f ∷ g ∷ more) met = ⊥
 
@@ -164,15 +159,16 @@ pub record MetAt (text : List ℕ) (path : ℕ → List ℕ) (count : ℕ) (tape
   pub own : List ℕ
   pub outer : List (List ℕ)
   pub files : List NamedFile
-  pub at : r.walk.over ≡ false → WalkAt text path count own outer r.walk
+  pub at : (next : Walk) → r.walk ≡ Some next → WalkAt text path count own outer next
   pub left : named_under paths (frames_at text walk.place) ≡ files ++ named_left text (own ∷ outer) r.walk
   pub met : FileMet path count tape files r
-  pub fewer : walk_size text r.walk < walk_size text walk
+  pub fewer : walk_size text r.walk < walk_size text (Some walk)
 
 -- A file read: the walk past its end, the range of its path, and what its extents come to.
 pub record FileRead (text : List ℕ) (tape : Tape) (named : Range) (walk : Walk) (inner : Place) (r : Met) : Type 0 where
-  pub walked : r.walk ≡ moved_to walk r.walk.place
-  pub left : Left text inner r.walk.place
+  pub after : Place
+  pub walked : r.walk ≡ Some (moved_to walk after)
+  pub left : Left text inner after
   pub range : r.range ≡ named
   pub file : r.file ≡ ranged_from tape no_file (extents_of (inside text inner))
 
@@ -181,7 +177,7 @@ MeetsAt text path count tape walk r = (own : List ℕ) (outer : List (List ℕ))
 
 -- The walk before its first step: every path may begin so.
 abbrev pub walk_start : ℕ → Walk
-walk_start count = record { over = false; depth = 0; place = Place.Text 0; ranges = replicate 33 (record { low = 0; high = count; length = 0 }) }
+walk_start count = record { depth = 0; place = Place.Text 0; ranges = replicate 33 (record { low = 0; high = count; length = 0 }) }
 
 -- No file is noted yet.
 abbrev pub NoneNoted : List ℕ → ℕ → (ℕ → Pick) → Type 0

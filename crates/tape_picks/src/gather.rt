@@ -26,17 +26,16 @@ fn gather(
     requires none_noted { NoneNoted order.now count (pick_in states.old starts.old ends.old) }
     ensures { Gathered tape index.now list.now from.now to.now order.now count result (pick_in states.new starts.new ends.new) }
 {
-    let mut walk = walk_start(count);
-    while !walk.over {
+    let mut next = Some(walk_start(count));
+    while let Some(walk) = next {
         let met = meet(index, list, from, to, order, count, tape, walk);
-        let file = met.file;
-        if !file.good {
+        let Some(span) = met.file else {
             return false;
-        }
-        let range = met.range;
-        let span = file.span;
-        note(from, to, order, count, range, span, states, starts, ends);
-        walk = met.walk;
+        };
+        note(
+            from, to, order, count, met.range, span, states, starts, ends,
+        );
+        next = met.walk;
     }
     true
 }

@@ -11,7 +11,6 @@ mod notes;
 mod walk;
 
 use gather::search;
-use refusals::refused;
 use tape_markup::is_balanced;
 use text_order::fill_order;
 use text_paths::{count_lines, fill_paths, judge_list};
@@ -25,6 +24,7 @@ pub struct Tape {
 }
 
 // What a line comes to: 0 no file, 1 one that can be read, 2 several, 3 one that cannot; where it starts and ends.
+// Stays: the states are lent as a row of numbers, and `FilesFound` tells them so; an enum would be made a number again at every line.
 #[derive(Clone, Copy)]
 pub struct Pick {
     pub state: u64,
@@ -36,7 +36,7 @@ pub struct Pick {
 fn lines_asked(list: &[u8], states: usize, starts: usize, ends: usize) -> usize
     ensures { (result ≡ lines_asked list.now states starts ends) × (result ≤ 1024) }
 {
-    if refused(judge_list(list)) {
+    if judge_list(list).is_err() {
         return 0;
     }
     let count = count_lines(list);

@@ -11,32 +11,22 @@ use text_order::Range;
 fn ends_there(start: usize, end: usize, length: usize) -> bool
     ensures { result ≡ leb (end - start) length }
 {
-    if end <= start {
-        return true;
-    }
-    end - start <= length
+    end.saturating_sub(start) <= length
 }
 
 // Whether the one file of a path can be read.
 fn state_of(span: Span) -> u64
     ensures { result ≡ cond (has_no_bytes span) 3 1 }
 {
-    if !span.some {
-        return 3;
-    }
-    if span.elsewhere {
-        return 3;
-    }
-    1
+    if !span.some || span.elsewhere { 3 } else { 1 }
 }
 
 // One file of a path.
 fn one_pick(span: Span) -> Pick
     ensures { result ≡ one_pick span }
 {
-    let state = state_of(span);
     Pick {
-        state,
+        state: state_of(span),
         start: span.start,
         end: span.end,
     }
@@ -76,12 +66,9 @@ pub(crate) fn note(
     requires all_fit { AllFit count states.old starts.old ends.old }
     ensures { FileNoted from.now to.now order.now count range span (pick_in states.old starts.old ends.old) (pick_in states.new starts.new ends.new) }
 {
-    let length = range.length;
-    let high = range.high;
-    let mut k = range.low;
-    while k < high {
+    for k in range.low..range.high {
         let line = order[k];
-        let here = ends_there(from[line], to[line], length);
+        let here = ends_there(from[line], to[line], range.length);
         let pick = Pick {
             state: states[line],
             start: starts[line],
@@ -91,7 +78,6 @@ pub(crate) fn note(
         states[line] = next.state;
         starts[line] = next.start;
         ends[line] = next.end;
-        k += 1;
     }
 }
 
@@ -100,9 +86,5 @@ pub(crate) fn hand_over(from: &[u64], count: usize, to: &mut [u64])
     requires { (count ≤ length from.now) × (count ≤ length to.old) }
     ensures { to.new ≡ take count from.now ++ drop count to.old }
 {
-    let mut i: usize = 0;
-    while i < count {
-        to[i] = from[i];
-        i += 1;
-    }
+    to[..count].copy_from_slice(&from[..count]);
 }

@@ -1,33 +1,35 @@
 // The walk through an index, one element at a time, with the range of paths that begin with the names around it.
-ghost use Rattle.std.specs.Prelude.{◌≡◌, false, ◌<◌};
+ghost use Rattle.std.specs.Prelude.{◌≡◌, ◌<◌};
 ghost use Rattle.tape_markup.specs.Places.{PlaceIn};
 ghost use Rattle.text_order.specs.Order.{path_at};
 ghost use Rattle.tape_files.specs.Elements.{taken_for, inside, level_at};
 ghost use Rattle.tape_picks.specs.Private.{walk_start, is_contents, named_range, below_range, moved_to, left_to, entered_at, passed_by, FileRead, ListHeld, SomeWalk, MeetsAt};
 
 use crate::Tape;
-use crate::files::{Ranged, no_file, read_file};
-use tape_files::{Child, Use, leave, next_child, role_at};
+use crate::files::{no_file, read_file};
+use tape_files::{Use, leave, next_child, role_at};
 use tape_markup::Place;
 use tape_names::own_name;
+use tape_spans::Span;
 use text_order::{Range, narrow};
 
 // Where a reader of the index stands: how many elements it is in that are looked at, and for each of them, the outermost first, the paths that begin with the names
-// around it; or all of the index is behind it.
+// around it.
+// Stays: rows of an array, since the record is copied, and the house works without a heap.
 #[derive(Clone, Copy)]
 pub(crate) struct Walk {
-    pub over: bool,
     pub depth: usize,
     pub place: Place,
     pub ranges: [Range; 33],
 }
 
-// One step further: the paths that begin with the path of the file met, and what its extents come to; no paths where no file is met.
+// One step further, unless all of the index is behind it: the paths that begin with the path of the file met, and its range, none where one of its extents is bad;
+// no paths where no file is met.
 #[derive(Clone, Copy)]
 pub(crate) struct Met {
-    pub walk: Walk,
+    pub walk: Option<Walk>,
     pub range: Range,
-    pub file: Ranged,
+    pub file: Option<Span>,
 }
 
 // Before the first step every path may begin so.
@@ -41,7 +43,6 @@ pub(crate) fn walk_start(count: usize) -> Walk
     };
     let ranges = [first; 33];
     Walk {
-        over: false,
         depth: 0,
         place: Place::Text(0),
         ranges,
@@ -99,34 +100,20 @@ fn below(
 fn moved(walk: Walk, place: Place) -> Walk
     ensures { result ≡ moved_to walk place }
 {
-    let ranges = walk.ranges;
-    Walk {
-        over: walk.over,
-        depth: walk.depth,
-        place,
-        ranges,
-    }
+    Walk { place, ..walk }
 }
 
 // Past the end of the element around: outwards, or over.
-fn left(walk: Walk, place: Place) -> Walk
+#[tactic(auto, unfolding(crate::specs::Private::left_to))]
+fn left(walk: Walk, place: Place) -> Option<Walk>
     ensures { result ≡ left_to walk place }
 {
-    let ranges = walk.ranges;
-    if walk.depth == 0 {
-        return Walk {
-            over: true,
-            depth: 0,
-            place,
-            ranges,
-        };
-    }
-    Walk {
-        over: walk.over,
-        depth: walk.depth - 1,
+    let depth = walk.depth.checked_sub(1)?;
+    Some(Walk {
+        depth,
         place,
-        ranges,
-    }
+        ..walk
+    })
 }
 
 // Into an element, with the range of what is below it.
@@ -138,7 +125,6 @@ fn entered(walk: Walk, place: Place, range: Range) -> Walk
     let mut ranges = walk.ranges;
     ranges[depth] = range;
     Walk {
-        over: walk.over,
         depth,
         place,
         ranges,
@@ -146,7 +132,7 @@ fn entered(walk: Walk, place: Place, range: Range) -> Walk
 }
 
 // A step on which no file is met.
-fn passed(walk: Walk) -> Met
+fn passed(walk: Option<Walk>) -> Met
     ensures { result ≡ passed_by walk }
 {
     let range = Range {
@@ -154,8 +140,11 @@ fn passed(walk: Walk) -> Met
         high: 0,
         length: 0,
     };
-    let file = no_file();
-    Met { walk, range, file }
+    Met {
+        walk,
+        range,
+        file: no_file(),
+    }
 }
 
 // A file: its extents, and the range of its path.
@@ -175,10 +164,11 @@ fn met_file(
 {
     let range = named_range(text, inner, list, starts, ends, order, range);
     let read = read_file(text, inner, tape);
-    let next = read.next;
-    let file = read.file;
-    let walk = moved(walk, next);
-    Met { walk, range, file }
+    Met {
+        walk: Some(moved(walk, read.next)),
+        range,
+        file: read.file,
+    }
 }
 
 // The next element.
@@ -193,25 +183,22 @@ pub(crate) fn meet(
     walk: Walk,
 ) -> Met
     requires list_held { ListHeld list.now starts.now ends.now order.now count }
-    requires over_value { (walk.over ≡ false) × SomeWalk text.now (path_at list.now starts.now ends.now order.now) count walk }
+    requires some_walk { SomeWalk text.now (path_at list.now starts.now ends.now order.now) count walk }
     ensures { MeetsAt text.now (path_at list.now starts.now ends.now order.now) count tape walk result }
 {
-    let here = walk.place;
     let depth = walk.depth;
     let range = walk.ranges[depth];
-    let child = next_child(text, here);
-    match child {
-        Child::Done(next) => passed(left(walk, next)),
-        Child::Element { from, to, next } => {
-            let role = role_at(text, from, to, depth);
-            match role {
-                Use::Enter => {
-                    let inner = below(text, next, list, starts, ends, order, range, depth);
-                    passed(entered(walk, next, inner))
-                }
-                Use::Read => met_file(text, list, starts, ends, order, tape, walk, range, next),
-                Use::Skip => passed(moved(walk, leave(text, next))),
+    match next_child(text, walk.place) {
+        Ok(child) => match role_at(text, child.from, child.to, depth) {
+            Use::Enter => {
+                let inner = below(text, child.next, list, starts, ends, order, range, depth);
+                passed(Some(entered(walk, child.next, inner)))
             }
-        }
+            Use::Read => met_file(
+                text, list, starts, ends, order, tape, walk, range, child.next,
+            ),
+            Use::Skip => passed(Some(moved(walk, leave(text, child.next)))),
+        },
+        Err(next) => passed(left(walk, next)),
     }
 }

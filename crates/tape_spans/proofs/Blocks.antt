@@ -1,12 +1,12 @@
 -- The blocks of an extent are exactly those that hold one of its bytes.
 use Prim.Native.Nat.{ℕ, ◌+◌, ◌-◌, ◌*◌, ◌/◌, ◌≤◌, ◌<◌}
-use mathlib.Core.Path.{◌≡◌, refl}
+use mathlib.Core.Path.{◌≡◌}
 use native.Mathlib.Omega.{arith}
 use native.Mathlib.Decide.{dec_le}
-use mathlib.Core.Logic.{◌↔◌, by_cases}
+use mathlib.Core.Logic.{by_cases}
 use native.Mathlib.Nat.{le-div_iff_mul-le, div-lt_iff_lt-mul, div-mul-le_self, lt-div-mul-add, div-eq_of_lt-le}
 use Rattle.tape_spans.specs.declared.Extent.{Extent}
-use Rattle.tape_spans.specs.Spans.{byte_start, byte_end, block_start, block_end}
+use Rattle.tape_spans.specs.Spans.{byte_start, byte_end}
 use Rattle.tape_spans.specs.Promises.{HoldsByte, LiesBetween, BlocksHoldBytes}
 
 module _ (size s t block : ℕ) (some : 0 < size) where

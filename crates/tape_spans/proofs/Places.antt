@@ -1,31 +1,12 @@
 -- Sums, products and quotients up to the limit.
-use Prim.Native.Nat.{ℕ, zero, suc, ◌+◌, ◌-◌, ◌*◌, ◌/◌, ◌%◌, ◌≤◌, ◌<◌, min, max}
-use mathlib.Core.Path.{◌≡◌, refl, ap, sym, ◌∙◌}
-use mathlib.Core.Bool.{true, cond, not, ◌||◌}
+use Prim.Native.Nat.{ℕ, ◌+◌, ◌-◌, ◌*◌, ◌/◌, ◌%◌, ◌≤◌, ◌<◌}
+use mathlib.Core.Path.{◌≡◌, ap, sym, ◌∙◌}
 use native.Mathlib.Omega.{arith}
 use native.Mathlib.Nat.{div-zero, mul-add-div_right, div-add-mod', div-eq_of_lt-le, div-eq_of_lt, mod-lt, div-lt_iff_lt-mul}
-use lib.Dec.{eqb}
 use borrow.Author.Tests.{eq-eqb, ne_eqb}
-use Rattle.runs.specs.Run.{last_place}
 use Rattle.tape_spans.specs.declared.Extent.{Extent}
-use Rattle.tape_spans.specs.declared.Span.{Span}
-use Rattle.tape_spans.specs.Spans.{near, place_start, place_end, span_with}
+use Rattle.tape_spans.specs.Spans.{near, place_start, place_end}
 use Rattle.tape_spans.specs.Private.{blocks_from, blocks_to, blocks_of_parts}
-
--- A sum of which one part is already cut at the limit.
-pub near_sum : (a b x : ℕ) → a ≡ near x → near (a + b) ≡ near (x + b)
-near_sum a b x e = omega arith
-
--- Blocks of no size, and of one.
-pub no_size : (block size : ℕ) → size ≡ 0 → 0 ≡ near (block * size)
-no_size block size e = let z : block * size ≡ block * 0 = ap (λ (n : ℕ). block * n) e in omega arith
-
-module _ (block size : ℕ) (some : size ≡ 0 → ⊥) where
-  pub too_many : last_place / size < block → last_place + 1 ≡ near (block * size)
-  too_many l = let h : last_place < block * size = (div-lt_iff_lt-mul {k = size} {x = last_place} {y = block} (omega arith)).0 l in omega arith
-
-  pub few_enough : block ≤ last_place / size → block * size ≤ last_place
-  few_enough l = (native.Mathlib.Nat.le-div_iff_mul-le {k = size} {x = block} {y = last_place} (omega arith)).0 l
 
 -- In blocks.
 pub start_no_size : (size block offset : ℕ) → size ≡ 0 → 0 ≡ near (blocks_from size block offset)
@@ -91,15 +72,3 @@ module _ (unit size : ℕ) (e : Extent) where
   pub end_blocks : (unit ≡ 0 → ⊥) → near (blocks_to size e.block e.offset e.count) ≡ near (place_end unit size e)
   unfolding place_end
   end_blocks u = rw (ne_eqb unit 0 u)
-
-  -- One extent more.
-  module _ (partition : ℕ) (span : Span) where
-    pub span_same : e.count ≡ 0 → span ≡ span_with unit size partition span e
-    unfolding span_with
-    span_same z = rw (eq-eqb e.count 0 z)
-
-    pub span_more : (e.count ≡ 0 → ⊥) → (start end first last : ℕ) → first ≡ near (place_start unit size e) → last ≡ near (place_end unit size e)
-        → start ≡ cond span.some (min span.start first) first → end ≡ cond span.some (max span.end last) last
-        → record { some = true; elsewhere = span.elsewhere || not (eqb e.partition partition); start = start; end = end } ≡ span_with unit size partition span e
-    unfolding span_with
-    span_more n start end first last f l s t = rw (ne_eqb e.count 0 n, s, t, f, l)

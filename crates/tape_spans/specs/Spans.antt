@@ -1,5 +1,5 @@
 -- The range of a file on the tape: of its extents those with a byte count above 0 count; from the least start to the greatest end, in bytes or in blocks.
-use Rattle.std.specs.Prelude.{ℕ, suc, ◌+◌, ◌-◌, ◌*◌, ◌/◌, min, max, Bool, true, false, cond, not, ◌||◌, List, [], ◌∷◌, eqb}
+use Rattle.std.specs.Prelude.{ℕ, suc, ◌+◌, ◌-◌, ◌*◌, ◌/◌, min, max, true, false, cond, not, ◌||◌, List, [], ◌∷◌, eqb}
 use Rattle.runs.specs.Run.{last_place}
 use Rattle.tape_spans.specs.declared.Extent.{Extent}
 use Rattle.tape_spans.specs.declared.Span.{Span}

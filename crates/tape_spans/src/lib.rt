@@ -3,7 +3,7 @@
 // answers every input, and its contract is an equation with a definition there.
 #![tactic(auto)]
 
-ghost use Rattle.std.specs.Prelude.{◌≡◌, cond, ◌+◌, ◌-◌, ◌*◌, ◌/◌, ◌<◌, min, max, eqb};
+ghost use Rattle.std.specs.Prelude.{◌≡◌, ◌+◌, ◌*◌, ◌<◌};
 ghost use Rattle.tape_spans.specs.Spans.{near, place_start, place_end, span_with};
 ghost use Rattle.tape_spans.specs.Private.{blocks_from, blocks_to, blocks_of_parts};
 
@@ -19,6 +19,7 @@ pub struct Extent {
 }
 
 // What the extents so far come to: whether one has bytes, whether one of these lies in another partition, the least start and the greatest end.
+// Stays: the theorem `RefusesTheFirst` on picks reads `some` and `elsewhere` where a file cannot be read (`CannotBeRead`), so that start and end are no Option.
 #[derive(Clone, Copy)]
 pub struct Span {
     pub some: bool,
@@ -27,30 +28,18 @@ pub struct Span {
     pub end: u64,
 }
 
-// A sum, or one above the limit. It is compared before it is made, so that it cannot wrap.
+// A sum, or one above the limit.
 fn add(a: u64, b: u64) -> u64
     ensures { result ≡ near (a + b) }
 {
-    if LAST_PLACE < a {
-        return LAST_PLACE + 1;
-    }
-    if LAST_PLACE - a < b {
-        return LAST_PLACE + 1;
-    }
-    a + b
+    a.saturating_add(b).min(LAST_PLACE + 1)
 }
 
 // So many blocks of a size, or one above the limit.
 fn times(block: u64, size: u64) -> u64
     ensures { result ≡ near (block * size) }
 {
-    if size == 0 {
-        return 0;
-    }
-    if LAST_PLACE / size < block {
-        return LAST_PLACE + 1;
-    }
-    block * size
+    block.saturating_mul(size).min(LAST_PLACE + 1)
 }
 
 fn byte_start(block: u64, offset: u64, size: u64) -> u64
@@ -121,32 +110,8 @@ fn place_end(extent: Extent, size: u64, unit: u64) -> u64
     block_end(extent.block, extent.offset, extent.count, size)
 }
 
-// The lesser start and the greater end, or the new one where there was none.
-fn lesser(some: bool, a: u64, b: u64) -> u64
-    ensures { result ≡ cond some (min a b) b }
-{
-    if !some {
-        return b;
-    }
-    if a < b {
-        return a;
-    }
-    b
-}
-
-fn greater(some: bool, x: u64, y: u64) -> u64
-    ensures { result ≡ cond some (max x y) y }
-{
-    if !some {
-        return y;
-    }
-    if x < y {
-        return y;
-    }
-    x
-}
-
 // The range with one extent more.
+#[tactic(auto, unfolding(crate::specs::Spans::span_with))]
 pub fn with_extent(span: Span, extent: Extent, partition: u64, size: u64, unit: u64) -> Span
     ensures { result ≡ span_with unit size partition span extent }
 {
@@ -155,12 +120,14 @@ pub fn with_extent(span: Span, extent: Extent, partition: u64, size: u64, unit: 
     }
     let first = place_start(extent, size, unit);
     let last = place_end(extent, size, unit);
-    let some = span.some;
-    let start = lesser(some, span.start, first);
-    let end = greater(some, span.end, last);
+    let (start, end) = if span.some {
+        (span.start.min(first), span.end.max(last))
+    } else {
+        (first, last)
+    };
     Span {
         some: true,
-        elsewhere: span.elsewhere | (extent.partition != partition),
+        elsewhere: span.elsewhere || extent.partition != partition,
         start,
         end,
     }

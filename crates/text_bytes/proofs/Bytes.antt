@@ -2,16 +2,19 @@
 use Prim.Native.Nat.{ℕ, ◌+◌, ◌-◌, ◌*◌, ◌^◌, ◌≤◌, ◌<◌}
 use mathlib.Core.Path.{◌≡◌, refl, ap, sym, ◌∙◌}
 use mathlib.Core.Bool.{Bool, true, false, not, ◌&&◌, and-false, false≢true}
-use mathlib.Core.List.{List, [], ◌∷◌, ◌++◌, append-nil}
+use mathlib.Core.List.{List, [], ◌∷◌}
 use native.Mathlib.Omega.{arith}
 use native.Mathlib.Numerals.{add-one}
 use lib.ListN.{length, get_or, take, drop, drop_of_length-le}
-use lib.Seq.{drop-cons, take-suc, append_snoc, length-take-le}
+use lib.Seq.{drop-cons, length-take-le}
 use lib.Dec.{leb, eqb}
-use borrow.Author.Tests.{eq-eqb, ne_eqb, lt-ltb, le-ltb, le-leb, lt-leb, leb-true}
-use Rattle.text_bytes.specs.Text.{has, before, behind, starts_with, all_of, value_from, value_of, is_digit, is_empty, leading_zero, is_number, is_name_byte, is_name}
-use Rattle.text_bytes.specs.declared.Found.{Found}
-use Rattle.text_bytes.specs.declared.Number.{Number}
+use borrow.Author.Tests.{eqb-true, eqb-false, lt-ltb, le-ltb, le-leb, lt-leb, leb-true}
+use Rattle.text_bytes.specs.Text.{has, before, behind, starts_with, is_text, all_of, value_from, value_of, is_digit, is_empty, leading_zero, is_number, is_name_byte, is_name}
+use Rattle.std.specs.Prelude.{Option, Some, None, nat_eq}
+use Rattle.std.specs.List.{list_all, position, position_from}
+use Rattle.std.proofs.lemmas.Iterator.Adapters.{position_from-zero}
+use Rattle.std.proofs.lemmas.Bool.Decides.{nat_tests}
+use lib.Pointwise.{pointwise}
 use Rattle.text_bytes.specs.Found.{FirstAt, FoundIn, NumberIs, NumberFound}
 
 -- A conjunction is true where each part is.
@@ -23,63 +26,66 @@ pub not_empty : (text : List ℕ) → 0 < length text → is_empty text ≡ fals
 not_empty [] l = absurd (omega arith)
 not_empty (b ∷ text) l = refl
 
--- Looking for a byte: it is not among the bytes passed, so what is left decides.
-pub record Searched (c : ℕ) (text : List ℕ) (i : ℕ) : Type 0 where
-  pub within : i ≤ length text
-  pub stands : has c text ≡ has c (drop i text)
-  pub front : before c text ≡ take i text ++ before c (drop i text)
-  pub back : behind c text ≡ behind c (drop i text)
+-- The first place of a byte, counted from any number on.
+abbrev FoundFrom : ℕ → List ℕ → ℕ → Option ℕ → Type 0
+FoundFrom c text n (Some i) = (k : ℕ) × (i ≡ n + k) × FirstAt c text k
+FoundFrom c text n None = has c text ≡ false
 
-pub searched_none : (c : ℕ) (text : List ℕ) → Searched c text 0
-searched_none c text = record { within = omega arith; stands = refl; front = refl; back = refl }
+found_behind : (c b : ℕ) (text : List ℕ) (n : ℕ) → eqb b c ≡ false → (r : Option ℕ) → FoundFrom c text (n + 1) r → FoundFrom c (b ∷ text) n r
+unfolding has before behind
+found_behind c b text n e (Some i) (k, at, first) = (
+  k + 1,
+  omega arith,
+  record { within = let w = first.within in omega arith; stands = rw e first.stands; front = rw (e, add-one k) (ap (λ t. b ∷ t) first.front); back = rw (e, add-one) (first.back ∙ rw add-one) },
+)
+found_behind c b text n e None none = rw e none
 
-module _ (c : ℕ) (text : List ℕ) (i : ℕ) (p : Searched c text i) where
-  pub byte_here : i < length text → get_or text i 0 ≡ c → FirstAt c text i
-  unfolding has before behind
-  byte_here l e =
-      record {
-        within = l;
-        stands = p.stands ∙ rw (drop-cons text i 0 l, eq-eqb _ _ e);
-        front = p.front ∙ rw (drop-cons text i 0 l, eq-eqb _ _ e) (append-nil _);
-        back = p.back ∙ rw (drop-cons text i 0 l, eq-eqb _ _ e, add-one);
-      }
+found_from : (c : ℕ) (text : List ℕ) (n : ℕ) → FoundFrom c text n (position_from (λ b. eqb b c) n text)
+unfolding has before behind
+found_from c [] n = refl
+found_from c (b ∷ text) n = go (eqb b c) refl (found_from c text (n + 1))
+  where
+    go : (t : Bool) → eqb b c ≡ t → FoundFrom c text (n + 1) (position_from (λ b. eqb b c) (n + 1) text) → FoundFrom c (b ∷ text) n (position_from (λ b. eqb b c) n (b ∷ text))
+    go true e rest = rw e (0, omega arith, record { within = omega arith; stands = rw e; front = rw e; back = rw e })
+    go false e rest = rw e (found_behind c b text n e _ rest)
 
-  pub byte_passed : i < length text → (get_or text i 0 ≡ c → ⊥) → Searched c text (i + 1)
-  unfolding has before behind
-  byte_passed l n =
-      record {
-        within = omega arith;
-        stands = p.stands ∙ rw (drop-cons text i 0 l, ne_eqb _ _ n, add-one);
-        front = p.front ∙ rw (drop-cons text i 0 l, ne_eqb _ _ n, add-one, take-suc text i 0 l, append_snoc);
-        back = p.back ∙ rw (drop-cons text i 0 l, ne_eqb _ _ n, add-one);
-      }
+from_start : (c : ℕ) (text : List ℕ) (r : Option ℕ) → FoundFrom c text 0 r → FoundIn c text r
+from_start c text (Some i) (k, at, first) = let same : i ≡ k = omega arith in rw same first
+from_start c text None none = none
 
-  pub byte_nowhere : length text ≤ i → has c text ≡ false
-  unfolding has
-  byte_nowhere l = p.stands ∙ rw (drop_of_length-le text l)
+-- What `position` answers.
+pub position_found : (c : ℕ) (text : List ℕ) (r : Option ℕ) → r ≡ position (λ b. eqb b c) text → FoundIn c text r
+position_found c text r e = from_start c text r (rw (e, position_from-zero) (found_from c text 0))
 
--- Comparing a beginning: what is left of both decides.
-pub record Compared (key text : List ℕ) (i : ℕ) : Type 0 where
-  pub within : i ≤ length key
-  pub rest : starts_with key text ≡ starts_with (drop i key) (drop i text)
+-- What `starts_with` and `==` of slices answer.
+pub begins : (key text : List ℕ) → pointwise nat_eq key (take (length key) text) ≡ starts_with key text
+unfolding starts_with
+begins [] text = refl
+begins (k ∷ key) [] = refl
+begins (k ∷ key) (b ∷ text) = ap (λ t. eqb k b && t) (begins key text)
 
-pub compared_none : (key text : List ℕ) → Compared key text 0
-compared_none key text = record { within = omega arith; rest = refl }
+eqb_either : (a b : ℕ) → eqb a b ≡ eqb b a
+eqb_either a b = grind (arith, nat_tests)
 
-module _ (key text : List ℕ) (i : ℕ) (p : Compared key text i) (long : length key ≤ length text) where
-  compared_here : i < length key → starts_with key text ≡ (eqb (get_or key i 0) (get_or text i 0) && starts_with (drop (i + 1) key) (drop (i + 1) text))
-  unfolding starts_with
-  compared_here l = p.rest ∙ rw (drop-cons key i 0 l, drop-cons text i 0 (omega arith), add-one)
+same_length : (text wanted : List ℕ) → length wanted ≡ length text → pointwise nat_eq text wanted ≡ starts_with wanted text
+unfolding starts_with
+same_length [] [] l = refl
+same_length [] (k ∷ wanted) l = absurd (omega arith)
+same_length (b ∷ text) [] l = absurd (omega arith)
+same_length (b ∷ text) (k ∷ wanted) l = rw (eqb_either b k, same_length text wanted (omega arith))
 
-  pub key_differs : i < length key → (get_or key i 0 ≡ get_or text i 0 → ⊥) → false ≡ starts_with key text
-  key_differs l n = sym (compared_here l ∙ rw (ne_eqb _ _ n))
+other_length : (text wanted : List ℕ) → (length wanted ≡ length text → ⊥) → pointwise nat_eq text wanted ≡ false
+other_length [] [] n = absurd (n refl)
+other_length [] (k ∷ wanted) n = refl
+other_length (b ∷ text) [] n = refl
+other_length (b ∷ text) (k ∷ wanted) n = rw (other_length text wanted (λ e. n (omega arith)), and-false)
 
-  pub key_passed : i < length key → get_or key i 0 ≡ get_or text i 0 → Compared key text (i + 1)
-  key_passed l e = record { within = omega arith; rest = compared_here l ∙ rw (eq-eqb _ _ e) }
-
-  pub key_done : length key ≤ i → true ≡ starts_with key text
-  unfolding starts_with
-  key_done l = sym (p.rest ∙ rw (drop_of_length-le key l))
+pub is_same : (text wanted : List ℕ) → pointwise nat_eq text wanted ≡ is_text wanted text
+is_same text wanted = go (eqb (length wanted) (length text)) refl
+  where
+    go : (t : Bool) → eqb (length wanted) (length text) ≡ t → pointwise nat_eq text wanted ≡ is_text wanted text
+    go true e = rw e (same_length text wanted (eqb-true _ _ e))
+    go false e = rw e (other_length text wanted (eqb-false _ _ e))
 
 pub short_text : (key text : List ℕ) → length text < length key → false ≡ starts_with key text
 unfolding starts_with
@@ -92,6 +98,12 @@ unfolding starts_with
 begun_long [] text e = omega arith
 begun_long (k ∷ key) [] e = absurd (false≢true e)
 begun_long (k ∷ key) (b ∷ text) e = let h = begun_long key text (and_true_both (eqb k b) (starts_with key text) e).1 in omega arith
+
+-- What `all` answers.
+pub all_are : (kind : ℕ → Bool) (text : List ℕ) → list_all kind text ≡ all_of kind text
+unfolding all_of
+all_are kind [] = refl
+all_are kind (b ∷ text) = ap (λ t. kind b && t) (all_are kind text)
 
 -- Every byte of a kind: what is left decides.
 pub record AllPassed (kind : ℕ → Bool) (text : List ℕ) (i : ℕ) : Type 0 where
@@ -143,12 +155,12 @@ module _ (text : List ℕ) (n i : ℕ) (p : Growing text n i) where
       let grows = value_grows (n * 10 + (get_or text i 0 - 48)) (drop (i + 1) text) in
       rw (le-ltb (value_of text) (2 ^ 64) (omega (arith, value_here l)), and-false)
 
-  pub digit_read : i < length text → is_digit (get_or text i 0) ≡ true → n * 10 + (get_or text i 0 - 48) < 2 ^ 64 → Growing text (n * 10 + (get_or text i 0 - 48)) (i + 1)
-  digit_read l e h =
+  pub digit_read : i < length text → is_digit (get_or text i 0) ≡ true → (m : ℕ) → m ≡ n * 10 + (get_or text i 0 - 48) → m < 2 ^ 64 → Growing text m (i + 1)
+  digit_read l e m is h =
       record {
         digits = kind_passed is_digit text i p.digits l e;
         small = h;
-        value = value_here l;
+        value = rw is (value_here l);
       }
 
   pub number_read : length text ≤ i → (not (is_empty text) && not (leading_zero text)) ≡ true → NumberIs text n
@@ -164,22 +176,11 @@ pub badly_begun : (text : List ℕ) → (not (is_empty text) && not (leading_zer
 unfolding is_number
 badly_begun text e = rw e
 
--- How a number may begin, by the length of its text.
-pub begun_empty : (text : List ℕ) → length text ≡ 0 → false ≡ (not (is_empty text) && not (leading_zero text))
-begun_empty [] e = refl
-begun_empty (b ∷ text) e = absurd (omega arith)
+-- A tape name's test, for a text of a fitting length and for any other.
+pub name_fits : (text : List ℕ) → 1 ≤ length text → length text ≤ 16 → all_of is_name_byte text ≡ is_name text
+unfolding is_name
+name_fits text s l = rw (le-leb 1 (length text) s, le-leb (length text) 16 l)
 
-pub begun_one : (text : List ℕ) → length text ≡ 1 → true ≡ (not (is_empty text) && not (leading_zero text))
-begun_one [] e = absurd (omega arith)
-begun_one (b ∷ []) e = refl
-begun_one (b ∷ c ∷ text) e = absurd (omega arith)
-
-pub begun_more : (text : List ℕ) → (length text ≡ 0 → ⊥) → (length text ≡ 1 → ⊥) → not (eqb (get_or text 0 0) 48) ≡ (not (is_empty text) && not (leading_zero text))
-begun_more [] n m = absurd (n refl)
-begun_more (b ∷ []) n m = absurd (m refl)
-begun_more (b ∷ c ∷ text) n m = refl
-
--- A tape name, as its test goes.
 pub name_short : (text : List ℕ) → length text < 1 → false ≡ is_name text
 unfolding is_name
 name_short text l = rw (lt-leb 1 (length text) l)
@@ -187,14 +188,6 @@ name_short text l = rw (lt-leb 1 (length text) l)
 pub name_long : (text : List ℕ) → 1 ≤ length text → 16 < length text → false ≡ is_name text
 unfolding is_name
 name_long text s l = rw (le-leb 1 (length text) s, lt-leb (length text) 16 l)
-
-pub name_bad : (text : List ℕ) → all_of is_name_byte text ≡ false → false ≡ is_name text
-unfolding is_name
-name_bad text e = rw (e, and-false)
-
-pub name_good : (text : List ℕ) → 1 ≤ length text → length text ≤ 16 → all_of is_name_byte text ≡ true → true ≡ is_name text
-unfolding is_name
-name_good text s l e = rw (le-leb 1 (length text) s, le-leb (length text) 16 l, e)
 
 -- A digit lies between 48 and 57.
 pub record DigitBounds (b : ℕ) : Type 0 where
@@ -207,15 +200,15 @@ digit_bounds b t e s =
     record { least = leb-true 48 b both.0; most = leb-true b 57 both.1 }
 
 -- Of two answers that fit one text, neither differs from the other.
-pub found_determined : (c : ℕ) (text : List ℕ) (r s : Found) → FoundIn c text r → FoundIn c text s → r ≡ s
-found_determined c text (Found.At i) (Found.At j) p q =
-    ap Found.At (sym (length-take-le i text (omega (arith, p.within))) ∙ ap length (sym p.front ∙ q.front) ∙ length-take-le j text (omega (arith, q.within)))
-found_determined c text (Found.At i) Found.Nowhere p q = absurd (false≢true (sym q ∙ p.stands))
-found_determined c text Found.Nowhere (Found.At j) p q = absurd (false≢true (sym p ∙ q.stands))
-found_determined c text Found.Nowhere Found.Nowhere p q = refl
+pub found_determined : (c : ℕ) (text : List ℕ) (r s : Option ℕ) → FoundIn c text r → FoundIn c text s → r ≡ s
+found_determined c text (Some i) (Some j) p q =
+    ap Some (sym (length-take-le i text (omega (arith, p.within))) ∙ ap length (sym p.front ∙ q.front) ∙ length-take-le j text (omega (arith, q.within)))
+found_determined c text (Some i) None p q = absurd (false≢true (sym q ∙ p.stands))
+found_determined c text None (Some j) p q = absurd (false≢true (sym p ∙ q.stands))
+found_determined c text None None p q = refl
 
-pub number_determined : (text : List ℕ) (r s : Number) → NumberFound text r → NumberFound text s → r ≡ s
-number_determined text (Number.Value n) (Number.Value m) p q = ap Number.Value (p.value ∙ sym q.value)
-number_determined text (Number.Value n) Number.Bad p q = absurd (false≢true (sym q ∙ p.good))
-number_determined text Number.Bad (Number.Value m) p q = absurd (false≢true (sym p ∙ q.good))
-number_determined text Number.Bad Number.Bad p q = refl
+pub number_determined : (text : List ℕ) (r s : Option ℕ) → NumberFound text r → NumberFound text s → r ≡ s
+number_determined text (Some n) (Some m) p q = ap Some (p.value ∙ sym q.value)
+number_determined text (Some n) None p q = absurd (false≢true (sym q ∙ p.good))
+number_determined text None (Some m) p q = absurd (false≢true (sym p ∙ q.good))
+number_determined text None None p q = refl

@@ -8,128 +8,71 @@ ghost use Rattle.text_bytes.specs.Text.{is_empty, starts_with, is_text, between,
 ghost use Rattle.text_bytes.specs.Found.{FoundIn, NumberFound};
 
 // Where a byte stands first in a text.
-#[derive(Clone, Copy)]
-pub enum Found {
-    At(usize),
-    Nowhere,
-}
-
-#[derive(Clone, Copy)]
-pub enum Number {
-    Value(u64),
-    Bad,
-}
-
-pub fn find(text: &[u8], byte: u8) -> Found
+pub fn find(text: &[u8], byte: u8) -> Option<usize>
     ensures { FoundIn byte text.now result }
 {
-    let mut i: usize = 0;
-    while i < text.len() {
-        if text[i] == byte {
-            return Found::At(i);
-        }
-        i += 1;
-    }
-    Found::Nowhere
+    text.iter().position(|b| *b == byte)
 }
 
 // Whether a text begins with a key.
 pub fn starts(text: &[u8], key: &[u8]) -> bool
     ensures { result ≡ starts_with key.now text.now }
 {
-    if text.len() < key.len() {
-        return false;
-    }
-    let mut i: usize = 0;
-    while i < key.len() {
-        if key[i] != text[i] {
-            return false;
-        }
-        i += 1;
-    }
-    true
+    text.starts_with(key)
 }
 
 pub fn same(text: &[u8], wanted: &[u8]) -> bool
     ensures { result ≡ is_text wanted.now text.now }
 {
-    if wanted.len() != text.len() {
-        return false;
-    }
-    starts(text, wanted)
+    text == wanted
 }
 
 // Whether a number may begin so: not empty, and no leading zero.
 fn well_begun(text: &[u8]) -> bool
     ensures { result ≡ (not (is_empty text.now) && not (leading_zero text.now)) }
 {
-    if text.len() == 0 {
-        return false;
+    match text {
+        [] => false,
+        [_] => true,
+        [first, ..] => *first != b'0',
     }
-    if text.len() == 1 {
-        return true;
-    }
-    text[0] != b'0'
 }
 
 pub fn is_between(least: u8, most: u8, byte: u8) -> bool
     ensures { result ≡ between least most byte }
 {
-    if byte < least {
-        return false;
-    }
-    byte <= most
+    least <= byte && byte <= most
 }
 
-// A whole text as a number. The value is compared before it grows, so that it cannot wrap.
-pub fn read_number(text: &[u8]) -> Number
+// A whole text as a number.
+pub fn read_number(text: &[u8]) -> Option<u64>
     ensures { NumberFound text.now result }
 {
     if !well_begun(text) {
-        return Number::Bad;
+        return None;
     }
     let mut value: u64 = 0;
-    let mut i: usize = 0;
-    while i < text.len() {
-        let byte = text[i];
+    for &byte in text {
         if !is_between(b'0', b'9', byte) {
-            return Number::Bad;
+            return None;
         }
-        let digit = (byte - b'0') as u64;
-        if (18446744073709551615 - digit) / 10 < value {
-            return Number::Bad;
-        }
-        value = value * 10 + digit;
-        i += 1;
+        value = value.checked_mul(10)?.checked_add(u64::from(byte - b'0'))?;
     }
-    Number::Value(value)
+    Some(value)
 }
 
 fn is_name_byte(byte: u8) -> bool
     ensures { result ≡ is_name_byte byte }
 {
-    if is_between(b'0', b'9', byte) {
-        return true;
-    }
-    is_between(b'A', b'Z', byte)
+    is_between(b'0', b'9', byte) || is_between(b'A', b'Z', byte)
 }
 
 // Whether a text is a tape name: 1 to 16 of A-Z and 0-9.
 pub fn is_name(text: &[u8]) -> bool
     ensures { result ≡ is_name text.now }
 {
-    if text.len() < 1 {
+    if text.len() < 1 || 16 < text.len() {
         return false;
     }
-    if 16 < text.len() {
-        return false;
-    }
-    let mut i: usize = 0;
-    while i < text.len() {
-        if !is_name_byte(text[i]) {
-            return false;
-        }
-        i += 1;
-    }
-    true
+    text.iter().all(|byte| is_name_byte(*byte))
 }

@@ -1,6 +1,6 @@
 -- An input of two texts is cut where its first line says: the laws of the cutting, and what the two parts are.
 use Prim.Native.Nat.{ℕ, ◌+◌, ◌-◌, ◌≤◌, ◌<◌}
-use mathlib.Core.Path.{◌≡◌, sym, ap, ◌∙◌, subst}
+use mathlib.Core.Path.{◌≡◌, sym, ap, ◌∙◌}
 use mathlib.Core.Bool.{Bool, true, false}
 use mathlib.Core.List.{List, []}
 use native.Mathlib.Omega.{arith}
@@ -8,50 +8,41 @@ use lib.ListN.{length, take, drop, length-drop}
 use lib.Seq.{take_all}
 use borrow.Author.Tests.{le-leb, lt-leb}
 use Rattle.text_bytes.specs.Text.{line_feed, behind, starts_with, is_number}
-use Rattle.text_lines.specs.declared.NumberLine.{NumberLine}
 use Rattle.text_lines.specs.Lines.{line_of, is_number_line, number_behind}
-use Rattle.text_lines.specs.Found.{NumberLineFound}
+use Rattle.text_lines.specs.Found.{Passed}
 use Rattle.text_inputs.specs.declared.Framed.{Framed}
-use Rattle.text_inputs.specs.declared.Framed.TheVariants.{Sheet, Bad}
+use Rattle.std.specs.Prelude.{Option, Some, None}
 use Rattle.text_inputs.specs.Inputs.{framed, framed_behind, part_in, part_place}
 
 -- A text of so many bytes from a place on.
 module _ (from bytes left : ℕ) (cut : Bool) where
-  pub whole_sheet : bytes ≤ left → Sheet from (from + bytes) ≡ framed_behind from bytes left cut
+  pub whole_sheet : bytes ≤ left → Some (record { from = from; to = from + bytes }) ≡ framed_behind from bytes left cut
   whole_sheet l = rw (le-leb bytes left l)
 
-  pub cut_sheet : left < bytes → cut ≡ true → Sheet from (from + left) ≡ framed_behind from bytes left cut
+  pub cut_sheet : left < bytes → cut ≡ true → Some (record { from = from; to = from + left }) ≡ framed_behind from bytes left cut
   cut_sheet l e = rw (lt-leb bytes left l, e)
 
-  pub no_sheet : left < bytes → cut ≡ false → Bad ≡ framed_behind from bytes left cut
+  pub no_sheet : left < bytes → cut ≡ false → None ≡ framed_behind from bytes left cut
   no_sheet l e = rw (lt-leb bytes left l, e)
 
 -- What the first line of an input says.
-module _ (input : List ℕ) (r : NumberLine) (found : NumberLineFound (is_number_line []) (number_behind []) input 0 r) where
+module _ (input : List ℕ) where
   abbrev rest : List ℕ
   rest = behind line_feed input
 
-  pub no_count : (cut : Bool) → r ≡ NumberLine.Bad → Bad ≡ framed input cut
+  pub no_count : (cut : Bool) → is_number_line [] (line_of input) ≡ false → None ≡ framed input cut
   unfolding framed is_number_line starts_with
-  no_count cut e =
-      let bad : is_number (line_of input) ≡ false = subst (λ (x : NumberLine). NumberLineFound (is_number_line []) (number_behind []) input 0 x) e found in
-      rw bad
+  no_count cut bad = let none : is_number (line_of input) ≡ false = bad in rw none
 
-  module _ (number next : ℕ) (e : r ≡ NumberLine.Value number next) where
-    counted : NumberLineFound (is_number_line []) (number_behind []) input 0 (NumberLine.Value number next)
-    counted = subst (λ (x : NumberLine). NumberLineFound (is_number_line []) (number_behind []) input 0 x) e found
-
-    pub next_within : next ≤ length input
-    next_within = counted.0.within
-
+  module _ (number next : ℕ) (counted : Passed (is_number_line []) input 0 next × (number ≡ number_behind [] (line_of input))) where
     left_is : length input - next ≡ length rest
     left_is = sym (length-drop next input) ∙ ap length counted.0.rest
 
-    pub count_framed : (cut : Bool) (left : ℕ) → left ≡ length input - next → (f : Framed) → f ≡ framed_behind next number left cut → f ≡ framed input cut
+    pub count_framed : (cut : Bool) (left : ℕ) → left ≡ length input - next → (f : Option Framed) → f ≡ framed_behind next number left cut → f ≡ framed input cut
     unfolding framed is_number_line starts_with
     count_framed cut left l f is =
         let good : is_number (line_of input) ≡ true = counted.0.good in
-        let from : next ≡ length input - length rest = omega (arith, left_is, next_within) in
+        let from : next ≡ length input - length rest = omega (arith, left_is, counted.0.within) in
         is ∙ rw (good, ← from, ← left_is, l, counted.1)
 
 -- The bytes between two places.
@@ -59,22 +50,10 @@ module _ (text : List ℕ) (from to : ℕ) where
   pub part_there : from ≤ to → to ≤ length text → take (to - from) (drop from text) ≡ part_in text from to
   part_there l m = rw (le-leb from to l, le-leb to (length text) m)
 
-  pub part_beyond : from ≤ to → length text < to → text ≡ part_in text from to
-  part_beyond l m = rw (le-leb from to l, lt-leb to (length text) m)
-
-  pub part_backwards : to < from → text ≡ part_in text from to
-  part_backwards l = rw (lt-leb from to l)
-
 -- And where they lie.
 module _ (bytes from to : ℕ) (place : ℕ × ℕ) where
   pub place_there : from ≤ to → to ≤ bytes → (place.0, from + place.1) ≡ part_place bytes from to place
   place_there l m = rw (le-leb from to l, le-leb to bytes m)
-
-  pub place_beyond : from ≤ to → bytes < to → place ≡ part_place bytes from to place
-  place_beyond l m = rw (le-leb from to l, lt-leb to bytes m)
-
-  pub place_backwards : to < from → place ≡ part_place bytes from to place
-  place_backwards l = rw (lt-leb from to l)
 
 -- The first n bytes of a row that has fewer.
 pub whole_row : (row : List ℕ) (n : ℕ) → length row < n → row ≡ take n row

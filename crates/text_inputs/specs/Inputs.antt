@@ -1,21 +1,20 @@
 -- An input of two texts: a line with the number of the first one's bytes, so many bytes, and the other text to the end.
-use Rattle.std.specs.Prelude.{ℕ, ◌+◌, ◌-◌, ◌≤◌, min, ◌≡◌, Bool, false, cond, ◌&&◌, List, length, take, drop, leb}
+use Rattle.std.specs.Prelude.{ℕ, ◌+◌, ◌-◌, ◌≤◌, min, ◌≡◌, Bool, false, cond, ◌&&◌, List, length, take, drop, leb, Option, Some, None}
 use Rattle.text_bytes.specs.Text.{line_feed, has, behind, is_number, value_of}
 use Rattle.text_lines.specs.Lines.{line_of}
 use Rattle.text_inputs.specs.declared.Framed.{Framed}
-use Rattle.text_inputs.specs.declared.Framed.TheVariants.{Sheet, Bad}
 use Rattle.text_inputs.specs.declared.Got.{Got}
 
 -- A text of so many bytes from a place on, where so many are left. Of an input that was cut off it is what is left.
-abbrev pub framed_behind : ℕ → ℕ → ℕ → Bool → Framed
-framed_behind from bytes left cut = cond (leb bytes left) (Sheet from (from + bytes)) (cond cut (Sheet from (from + left)) Bad)
+abbrev pub framed_behind : ℕ → ℕ → ℕ → Bool → Option Framed
+framed_behind from bytes left cut = cond (leb bytes left) (Some (record { from = from; to = from + bytes })) (cond cut (Some (record { from = from; to = from + left })) None)
 
 -- Where the first text begins and where it ends.
-unfoldable pub framed : List ℕ → Bool → Framed
+unfoldable pub framed : List ℕ → Bool → Option Framed
 framed input cut =
     cond (is_number (line_of input))
     (framed_behind (length input - length (behind line_feed input)) (value_of (line_of input)) (length (behind line_feed input)) cut)
-    Bad
+    None
 
 -- The bytes from one place to another; the whole text where these are no places in it.
 abbrev pub part_in : List ℕ → ℕ → ℕ → List ℕ

@@ -2,18 +2,21 @@
 // What is read is the system's: contracts say where it is put and how much it can be. How an input that was read is cut, they say in full.
 #![tactic(auto)]
 
-ghost use Rattle.std.specs.Prelude.{◌≡◌, ◌+◌, ◌≤◌, min, length, take};
+ghost use Rattle.std.specs.Prelude.{◌≡◌, ◌+◌, ◌≤◌, length, take};
+ghost use Rattle.text_inputs.specs.Answering.{AnsweredBy};
 ghost use Rattle.text_inputs.specs.Inputs.{framed, framed_behind, part_in, part_place, LineRead, ReadOf};
 
-use text_lines::NumberLine;
+use text_lines::number_line;
 
 const STDIN: i32 = 0;
 
+const STDOUT: i32 = 1;
+
 // Where a sheet stands in an input. What follows it is the other text.
 #[derive(Clone, Copy)]
-pub enum Framed {
-    Sheet { from: usize, to: usize },
-    Bad,
+pub struct Framed {
+    pub from: usize,
+    pub to: usize,
 }
 
 // How many bytes were kept, and how many there were.
@@ -24,34 +27,32 @@ pub struct Got {
 }
 
 // The sheet of so many bytes from a place on, or what is left of it where the input was cut off.
-fn frame_behind(from: usize, bytes: u64, left: usize, cut: bool) -> Framed
+fn frame_behind(from: usize, bytes: u64, left: usize, cut: bool) -> Option<Framed>
     requires { from + left ≤ 18446744073709551615 }
     ensures { result ≡ framed_behind from bytes left cut }
 {
     if bytes <= left as u64 {
-        return Framed::Sheet {
+        return Some(Framed {
             from,
             to: from + bytes as usize,
-        };
+        });
     }
     if cut {
-        return Framed::Sheet {
+        return Some(Framed {
             from,
             to: from + left,
-        };
+        });
     }
-    Framed::Bad
+    None
 }
 
 // A line with the sheet's number of bytes, and so many bytes. Of an input that was cut off the sheet is what is there: it is too long for one.
-pub fn frame(input: &[u8], cut: bool) -> Framed
+pub fn frame(input: &[u8], cut: bool) -> Option<Framed>
     ensures { result ≡ framed input.now cut }
 {
-    let NumberLine::Value { number, next } = text_lines::number_line(input, 0, b"") else {
-        return Framed::Bad;
-    };
-    let left = input.len() - next;
-    frame_behind(next, number, left, cut)
+    let line = number_line(input, 0, b"")?;
+    let left = input.len() - line.next;
+    frame_behind(line.next, line.number, left, cut)
 }
 
 // The bytes from one place to another; the whole text where these are no places in it.
@@ -80,45 +81,28 @@ pub fn front(row: &[u8], n: u64) -> &[u8]
 }
 
 // What is read next.
-#[derive(Clone, Copy)]
-enum Next {
-    Byte(u8),
-    End,
-}
-
-fn next_byte() -> Next {
+fn next_byte() -> Option<u8> {
     let mut byte = [0u8; 1];
     if io::read_full(STDIN, &mut byte) == 0 {
-        return Next::End;
+        return None;
     }
-    Next::Byte(byte[0])
+    Some(byte[0])
 }
 
 // Up to the LF, which is among the bytes, to the end of the input or to the end of the row: how many bytes there are.
 pub fn read_line(line: &mut [u8]) -> usize
     ensures { LineRead line.old result line.new }
 {
-    let mut n: usize = 0;
-    while n < line.len() {
-        let Next::Byte(byte) = next_byte() else {
+    for n in 0..line.len() {
+        let Some(byte) = next_byte() else {
             return n;
         };
         line[n] = byte;
-        n += 1;
         if byte == b'\n' {
-            return n;
+            return n + 1;
         }
     }
-    n
-}
-
-fn least(a: u64, b: u64) -> u64
-    ensures { result ≡ min a b }
-{
-    if a < b {
-        return a;
-    }
-    b
+    line.len()
 }
 
 // One read of at most so many bytes, which go nowhere: how many there were.
@@ -126,9 +110,9 @@ fn pass_some(left: u64) -> u64
     ensures { result ≤ left }
 {
     let mut space = io::large_buffer();
-    let most = least(left, 65536) as usize;
+    let most = left.min(65536) as usize;
     let got = io::read_full(STDIN, &mut space[..most]);
-    least(got as u64, left)
+    left.min(got as u64)
 }
 
 // Passes over so many bytes: how many of them there were.
@@ -158,8 +142,8 @@ fn read_front(row: &mut [u8], most: usize) -> usize {
 pub fn read_bytes(row: &mut [u8], bytes: u64) -> Got
     ensures { ReadOf (length row.old) bytes result }
 {
-    let most = least(bytes, row.len() as u64);
-    let kept = least(read_front(row, most as usize) as u64, most);
+    let most = bytes.min(row.len() as u64);
+    let kept = most.min(read_front(row, most as usize) as u64);
     if kept < most {
         return Got { kept, all: kept };
     }
@@ -168,4 +152,15 @@ pub fn read_bytes(row: &mut [u8], bytes: u64) -> Got
         kept,
         all: kept + more,
     }
+}
+
+// What a program does that has one input and one answer: standard input into a row, as much as it holds; the answer to it in the first bytes of another
+// row, how many they are; and these bytes to standard output.
+pub fn answer_by<F: FnOnce(&[u8], &mut [u8]) -> u64>(input: &mut [u8], out: &mut [u8], answer: F)
+    requires { F.IsAlwaysCallable answer }
+    ensures { AnsweredBy F.FnOnce answer input.new out.old out.new }
+{
+    let n = io::read_full(STDIN, input);
+    let bytes = answer(&input[..n], out);
+    io::write_all(STDOUT, front(out, bytes));
 }

@@ -65,9 +65,6 @@ module _ (key text : List ℕ) (at count most : ℕ) (firsts₀ seconds₀ : Lis
     pub left_in : i < most → i < length firsts
     left_in l = omega (arith, l, room, left_long)
 
-    pub right_in : i < most → i < length seconds
-    right_in l = omega (arith, l, space, right_long)
-
     pub pair_filled : i < most → (a b after : ℕ) → PairAt key text next a b after → Filling key text at most firsts₀ seconds₀ after (i + 1) (set firsts i a) (set seconds i b)
     pair_filled l a b after q =
         let line = ap line_of p.seen.rest in

@@ -11,19 +11,11 @@ use lib.Dec.{eqb}
 use lib.ListN.{length, take, drop, length-drop, drop_of_length-le}
 use lib.Seq.{take_all, drop-drop, length-take-le, drop-nil, take-nil}
 use Rattle.refusals.specs.Refusals.{first_where}
-use Rattle.text_bytes.specs.declared.Found.{Found}
-use Rattle.text_bytes.specs.declared.Number.{Number}
-use Rattle.text_lines.specs.declared.Keyed.{Keyed}
-use Rattle.text_lines.specs.declared.Pair.{Pair}
-use Rattle.text_lines.specs.declared.PairLine.{PairLine}
-use Rattle.text_lines.specs.declared.Triple.{Triple}
-use Rattle.text_lines.specs.declared.TripleLine.{TripleLine}
-use Rattle.text_lines.specs.declared.Lines.{Lines}
 use Rattle.text_bytes.specs.Text.{line_feed, comma, is_empty, has, before, behind, starts_with, is_number}
-use Rattle.text_bytes.specs.Found.{FirstAt, FoundIn, NumberIs, NumberFound}
+use Rattle.text_bytes.specs.Found.{FirstAt, NumberIs}
 use Rattle.text_lines.specs.Lines.{line_of, after_lines, line_after, value_text, is_number_line, number_behind, is_pair, is_pair_line, is_triple, is_triple_line, first_bad_of}
-use Rattle.text_lines.specs.Found.{ValueAt, ValueFound, Passed, PairAt, PairLineFound, TripleAt, TripleLineFound, LinesPassed, LineBad, LinesFound}
-use Rattle.text_lines.specs.Private.{PairIs, PairFound, TripleIs, TripleFound}
+use Rattle.text_lines.specs.Found.{ValueAt, Passed, PairAt, TripleAt, LinesPassed, LineBad}
+use Rattle.text_lines.specs.Private.{PairIs, TripleIs}
 use Rattle.text_bytes.proofs.Bytes.{not_empty, short_text, begun_long}
 
 -- The end of a part is a part of the end.
@@ -46,16 +38,16 @@ unfolding has
 line_behind_lem key text at l = let none : drop at text ≡ [] = drop_of_length-le text {i = at} (omega arith) in rw none
 
 -- Looking for the LF from a position on.
-module _ (key text : List ℕ) (at : ℕ) (here : at ≤ length text) (r : Found) (found : FoundIn line_feed (take (length text - at) (drop at text)) r) where
+module _ (key text : List ℕ) (at : ℕ) (here : at ≤ length text) where
   rest_all : take (length text - at) (drop at text) ≡ drop at text
   rest_all = take_all (length text - at) (drop at text) (rw (length-drop at text) (omega arith))
 
-  pub line_missing : r ≡ Found.Nowhere → (has line_feed (drop at text) && starts_with key (line_of (drop at text))) ≡ false
-  line_missing e = rw (rw rest_all at (subst (λ f. FoundIn line_feed (take (length text - at) (drop at text)) f) e found))
+  pub line_missing : has line_feed (take (length text - at) (drop at text)) ≡ false → (has line_feed (drop at text) && starts_with key (line_of (drop at text))) ≡ false
+  line_missing none = rw (rw rest_all at none)
 
-  module _ (i : ℕ) (e : r ≡ Found.At i) where
+  module _ (i : ℕ) (first : FirstAt line_feed (take (length text - at) (drop at text)) i) where
     line_ends_here : FirstAt line_feed (drop at text) i
-    line_ends_here = subst (λ t. FirstAt line_feed t i) rest_all (subst (λ f. FoundIn line_feed (take (length text - at) (drop at text)) f) e found)
+    line_ends_here = subst (λ t. FirstAt line_feed t i) rest_all first
 
     line_is_here : line_of (drop at text) ≡ take i (drop at text)
     unfolding line_of
@@ -92,71 +84,55 @@ module _ (key text : List ℕ) (at : ℕ) (here : at ≤ length text) (r : Found
           }
 
 -- What a reader of one line has found, from what stands behind the key.
-module _ (key text : List ℕ) (at : ℕ) (r : Keyed) (found : ValueFound key text at r) where
-  pub unkeyed : r ≡ Keyed.Bad → (has line_feed (drop at text) && starts_with key (line_of (drop at text))) ≡ false
-  unkeyed e = subst (λ k. ValueFound key text at k) e found
+module _ (key text : List ℕ) (at from end : ℕ) (v : ValueAt key text at from end) where
+  pub line_passed : (test : List ℕ → Bool) → test (line_of (drop at text)) ≡ true → Passed test text at (end + 1)
+  line_passed test good = record { good = good; within = let w = v.within in omega arith; rest = v.rest }
 
-  module _ (from end : ℕ) (e : r ≡ Keyed.Text from end) where
-    pub value_at : ValueAt key text at from end
-    value_at = subst (λ k. ValueFound key text at k) e found
+  value_length_here : length (value_text key (line_of (drop at text))) ≡ end - from
+  value_length_here = ap length (sym v.value) ∙ length-take-le (end - from) (drop from text) (rw (length-drop from text) (omega (arith, v.within)))
 
-    pub line_passed : (test : List ℕ → Bool) → test (line_of (drop at text)) ≡ true → Passed test text at (end + 1)
-    line_passed test good = let v = value_at in record { good = good; within = omega arith; rest = v.rest }
+  pub some_text : (from ≡ end → ⊥) → is_empty (value_text key (line_of (drop at text))) ≡ false
+  some_text n = not_empty (value_text key (line_of (drop at text))) (omega (arith, value_length_here, v.ordered))
 
-    value_length_here : length (value_text key (line_of (drop at text))) ≡ end - from
-    value_length_here =
-        let v = value_at in
-        ap length (sym v.value) ∙ length-take-le (end - from) (drop from text) (rw (length-drop from text) (omega arith))
+  pub no_text : from ≡ end → is_empty (value_text key (line_of (drop at text))) ≡ true
+  no_text d = empty_text (value_text key (line_of (drop at text))) (omega (arith, value_length_here))
 
-    pub some_text : (from ≡ end → ⊥) → is_empty (value_text key (line_of (drop at text))) ≡ false
-    some_text n = let v = value_at in not_empty (value_text key (line_of (drop at text))) (omega (arith, value_length_here))
+  -- A number behind the key.
+  pub no_number : is_number (take (end - from) (drop from text)) ≡ false → is_number (value_text key (line_of (drop at text))) ≡ false
+  no_number none = rw v.value at none
 
-    pub no_text : from ≡ end → is_empty (value_text key (line_of (drop at text))) ≡ true
-    no_text d = let v = value_at in empty_text (value_text key (line_of (drop at text))) (omega (arith, value_length_here))
+  pub number_is : (n : ℕ) → NumberIs (take (end - from) (drop from text)) n → NumberIs (value_text key (line_of (drop at text))) n
+  number_is n = subst (λ t. NumberIs t n) v.value
 
-    -- A number behind the key.
-    module _ (q : Number) (reads : NumberFound (take (end - from) (drop from text)) q) where
-      pub no_number : q ≡ Number.Bad → is_number (value_text key (line_of (drop at text))) ≡ false
-      no_number f = rw value_at.value at (subst (λ k. NumberFound (take (end - from) (drop from text)) k) f reads)
+  pub number_line_bad : is_number (take (end - from) (drop from text)) ≡ false → is_number_line key (line_of (drop at text)) ≡ false
+  unfolding is_number_line
+  number_line_bad none = rw (no_number none, and-false)
 
-      pub number_is : (n : ℕ) → q ≡ Number.Value n → NumberIs (value_text key (line_of (drop at text))) n
-      number_is n f = subst (λ t. NumberIs t n) value_at.value (subst (λ k. NumberFound (take (end - from) (drop from text)) k) f reads)
+  pub number_line_good : (n : ℕ) → NumberIs (take (end - from) (drop from text)) n → Passed (is_number_line key) text at (end + 1) × (n ≡ number_behind key (line_of (drop at text)))
+  unfolding is_number_line
+  number_line_good n is = let number = number_is n is in (line_passed (is_number_line key) (rw (v.begun, number.good)), number.value)
 
-      pub number_line_bad : q ≡ Number.Bad → is_number_line key (line_of (drop at text)) ≡ false
-      unfolding is_number_line
-      number_line_bad f = rw (no_number f, and-false)
+  -- Two numbers behind the key.
+  pub pair_line_bad : is_pair (take (end - from) (drop from text)) ≡ false → is_pair_line key (line_of (drop at text)) ≡ false
+  unfolding is_pair_line
+  pair_line_bad none = let e : is_pair (value_text key (line_of (drop at text))) ≡ false = rw v.value at none in rw (e, and-false)
 
-      pub number_line_good : (n : ℕ) → q ≡ Number.Value n → Passed (is_number_line key) text at (end + 1) × (n ≡ number_behind key (line_of (drop at text)))
-      unfolding is_number_line
-      number_line_good n f = (line_passed (is_number_line key) (rw (value_at.begun, (number_is n f).good)), (number_is n f).value)
+  pub pair_line_good : (a b : ℕ) → PairIs (take (end - from) (drop from text)) a b → PairAt key text at a b (end + 1)
+  unfolding is_pair_line
+  pair_line_good a b is =
+      let p : PairIs (value_text key (line_of (drop at text))) a b = subst (λ t. PairIs t a b) v.value is in
+      record { passed = line_passed (is_pair_line key) (rw v.begun p.good); left = p.left; right = p.right }
 
-    -- Two numbers behind the key.
-    module _ (q : Pair) (reads : PairFound (take (end - from) (drop from text)) q) where
-      pub pair_line_bad : q ≡ Pair.Bad → is_pair_line key (line_of (drop at text)) ≡ false
-      unfolding is_pair_line
-      pair_line_bad f =
-          let e : is_pair (value_text key (line_of (drop at text))) ≡ false = rw value_at.value at (subst (λ k. PairFound (take (end - from) (drop from text)) k) f reads) in
-          rw (e, and-false)
+  -- Three.
+  pub triple_line_bad : is_triple (take (end - from) (drop from text)) ≡ false → is_triple_line key (line_of (drop at text)) ≡ false
+  unfolding is_triple_line
+  triple_line_bad none = let e : is_triple (value_text key (line_of (drop at text))) ≡ false = rw v.value at none in rw (e, and-false)
 
-      pub pair_line_good : (a b : ℕ) → q ≡ Pair.Both a b → PairAt key text at a b (end + 1)
-      unfolding is_pair_line
-      pair_line_good a b f =
-          let p : PairIs (value_text key (line_of (drop at text))) a b = subst (λ t. PairIs t a b) value_at.value (subst (λ k. PairFound (take (end - from) (drop from text)) k) f reads) in
-          record { passed = line_passed (is_pair_line key) (rw value_at.begun p.good); left = p.left; right = p.right }
-
-    -- Three.
-    module _ (q : Triple) (reads : TripleFound (take (end - from) (drop from text)) q) where
-      pub triple_line_bad : q ≡ Triple.Bad → is_triple_line key (line_of (drop at text)) ≡ false
-      unfolding is_triple_line
-      triple_line_bad f =
-          let e : is_triple (value_text key (line_of (drop at text))) ≡ false = rw value_at.value at (subst (λ k. TripleFound (take (end - from) (drop from text)) k) f reads) in
-          rw (e, and-false)
-
-      pub triple_line_good : (a b c : ℕ) → q ≡ Triple.All a b c → TripleAt key text at a b c (end + 1)
-      unfolding is_triple_line
-      triple_line_good a b c f =
-          let p : TripleIs (value_text key (line_of (drop at text))) a b c = subst (λ t. TripleIs t a b c) value_at.value (subst (λ k. TripleFound (take (end - from) (drop from text)) k) f reads) in
-          record { passed = line_passed (is_triple_line key) (rw value_at.begun p.good); left = p.left; middle = p.middle; right = p.right }
+  pub triple_line_good : (a b c : ℕ) → TripleIs (take (end - from) (drop from text)) a b c → TripleAt key text at a b c (end + 1)
+  unfolding is_triple_line
+  triple_line_good a b c is =
+      let p : TripleIs (value_text key (line_of (drop at text))) a b c = subst (λ t. TripleIs t a b c) v.value is in
+      record { passed = line_passed (is_triple_line key) (rw v.begun p.good); left = p.left; middle = p.middle; right = p.right }
 
 -- A line without its key, or without its LF, is not as described.
 module _ (key text : List ℕ) (none : (has line_feed text && starts_with key (line_of text)) ≡ false) where
@@ -199,81 +175,58 @@ behind_nowhere c (b ∷ text) e = go (eqb b c) e (behind_nowhere c text)
     go false h rest = rest h
 
 -- A pair of numbers in a text, from its first comma.
-module _ (text : List ℕ) (r : Found) (found : FoundIn comma text r) where
-  pub no_comma : r ≡ Found.Nowhere → is_pair text ≡ false
+module _ (text : List ℕ) where
+  pub no_comma : has comma text ≡ false → is_pair text ≡ false
   unfolding is_pair is_number
-  no_comma e = rw (behind_nowhere comma text (subst (λ f. FoundIn comma text f) e found), and-false)
+  no_comma none = rw (behind_nowhere comma text none, and-false)
 
-  module _ (i : ℕ) (e : r ≡ Found.At i) where
-    pub comma_at_lem : FirstAt comma text i
-    comma_at_lem = subst (λ f. FoundIn comma text f) e found
+  module _ (i : ℕ) (comma_here : FirstAt comma text i) where
+    behind_all : take (length text - (i + 1)) (drop (i + 1) text) ≡ behind comma text
+    behind_all = take_all (length text - (i + 1)) (drop (i + 1) text) (rw (length-drop (i + 1) text) (omega arith)) ∙ sym comma_here.back
 
-    pub behind_all : take (length text - (i + 1)) (drop (i + 1) text) ≡ behind comma text
-    behind_all = take_all (length text - (i + 1)) (drop (i + 1) text) (rw (length-drop (i + 1) text) (omega arith)) ∙ sym comma_at_lem.back
+    pub left_bad : is_number (take i text) ≡ false → is_pair text ≡ false
+    unfolding is_pair
+    left_bad none = rw (comma_here.front, none)
 
-    module _ (q : Number) (reads : NumberFound (take i text) q) where
-      pub left_bad : q ≡ Number.Bad → is_pair text ≡ false
-      unfolding is_pair
-      left_bad f = rw (comma_at_lem.front, subst (λ k. NumberFound (take i text) k) f reads)
+    pub right_bad : is_number (take (length text - (i + 1)) (drop (i + 1) text)) ≡ false → is_pair text ≡ false
+    unfolding is_pair
+    right_bad none = rw (← behind_all, none, and-false)
 
-      module _ (p : Number) (reads' : NumberFound (take (length text - (i + 1)) (drop (i + 1) text)) p) where
-        pub right_bad : p ≡ Number.Bad → is_pair text ≡ false
-        unfolding is_pair
-        right_bad f = rw (← behind_all, subst (λ k. NumberFound (take (length text - (i + 1)) (drop (i + 1) text)) k) f reads', and-false)
-
-        pub pair_is : (a b : ℕ) → q ≡ Number.Value a → p ≡ Number.Value b → PairIs text a b
-        unfolding is_pair
-        pair_is a b f g =
-            let left : NumberIs (take i text) a = subst (λ k. NumberFound (take i text) k) f reads in
-            let right : NumberIs (behind comma text) b = subst (λ t. NumberIs t b) behind_all (subst (λ k. NumberFound (take (length text - (i + 1)) (drop (i + 1) text)) k) g reads') in
-            record {
-              good = rw (comma_at_lem.front, left.good, right.good);
-              left = rw comma_at_lem.front left.value;
-              right = right.value;
-            }
+    pub pair_is : (a b : ℕ) → NumberIs (take i text) a → NumberIs (take (length text - (i + 1)) (drop (i + 1) text)) b → PairIs text a b
+    unfolding is_pair
+    pair_is a b left rest =
+        let right : NumberIs (behind comma text) b = subst (λ t. NumberIs t b) behind_all rest in
+        record {
+          good = rw (comma_here.front, left.good, right.good);
+          left = rw comma_here.front left.value;
+          right = right.value;
+        }
 
 -- Three numbers in a text: a number before its first comma, and a pair behind it.
-module _ (text : List ℕ) (r : Found) (found : FoundIn comma text r) where
-  pub no_comma_three : r ≡ Found.Nowhere → is_triple text ≡ false
+module _ (text : List ℕ) where
+  pub no_comma_three : has comma text ≡ false → is_triple text ≡ false
   unfolding is_triple is_pair is_number before
-  no_comma_three e = rw (behind_nowhere comma text (subst (λ f. FoundIn comma text f) e found), and-false)
+  no_comma_three none = rw (behind_nowhere comma text none, and-false)
 
-  module _ (i : ℕ) (e : r ≡ Found.At i) (q : Number) (reads : NumberFound (take i text) q) where
-    pub first_bad_lem : q ≡ Number.Bad → is_triple text ≡ false
+  module _ (i : ℕ) (comma_here : FirstAt comma text i) where
+    pub first_bad_lem : is_number (take i text) ≡ false → is_triple text ≡ false
     unfolding is_triple
-    first_bad_lem f = rw ((comma_at_lem text r found i e).front, subst (λ k. NumberFound (take i text) k) f reads)
+    first_bad_lem none = rw (comma_here.front, none)
 
-    module _ (p : Pair) (reads' : PairFound (take (length text - (i + 1)) (drop (i + 1) text)) p) where
-      pub rest_bad : p ≡ Pair.Bad → is_triple text ≡ false
-      unfolding is_triple
-      rest_bad f = rw (← behind_all text r found i e, subst (λ k. PairFound (take (length text - (i + 1)) (drop (i + 1) text)) k) f reads', and-false)
+    pub rest_bad : is_pair (take (length text - (i + 1)) (drop (i + 1) text)) ≡ false → is_triple text ≡ false
+    unfolding is_triple
+    rest_bad none = rw (← behind_all text i comma_here, none, and-false)
 
-      pub triple_is : (a b c : ℕ) → q ≡ Number.Value a → p ≡ Pair.Both b c → TripleIs text a b c
-      unfolding is_triple
-      triple_is a b c f g =
-          let left : NumberIs (take i text) a = subst (λ k. NumberFound (take i text) k) f reads in
-          let pair : PairIs (behind comma text) b c = subst (λ t. PairIs t b c) (behind_all text r found i e) (subst (λ k. PairFound (take (length text - (i + 1)) (drop (i + 1) text)) k) g reads') in
-          record {
-            good = rw ((comma_at_lem text r found i e).front, left.good, pair.good);
-            left = rw (comma_at_lem text r found i e).front left.value;
-            middle = pair.left;
-            right = pair.right;
-          }
-
--- What the readers of a line answered.
-module _ (key text : List ℕ) (at : ℕ) (r : PairLine) (found : PairLineFound key text at r) where
-  pub pair_unread : r ≡ PairLine.Bad → is_pair_line key (line_of (drop at text)) ≡ false
-  pair_unread e = subst (λ k. PairLineFound key text at k) e found
-
-  pub pair_read : (a b next : ℕ) → r ≡ PairLine.Both a b next → PairAt key text at a b next
-  pair_read a b next e = subst (λ k. PairLineFound key text at k) e found
-
-module _ (key text : List ℕ) (at : ℕ) (r : TripleLine) (found : TripleLineFound key text at r) where
-  pub triple_unread : r ≡ TripleLine.Bad → is_triple_line key (line_of (drop at text)) ≡ false
-  triple_unread e = subst (λ k. TripleLineFound key text at k) e found
-
-  pub triple_read : (a b c next : ℕ) → r ≡ TripleLine.All a b c next → TripleAt key text at a b c next
-  triple_read a b c next e = subst (λ k. TripleLineFound key text at k) e found
+    pub triple_is : (a b c : ℕ) → NumberIs (take i text) a → PairIs (take (length text - (i + 1)) (drop (i + 1) text)) b c → TripleIs text a b c
+    unfolding is_triple
+    triple_is a b c left rest =
+        let pair : PairIs (behind comma text) b c = subst (λ t. PairIs t b c) (behind_all text i comma_here) rest in
+        record {
+          good = rw (comma_here.front, left.good, pair.good);
+          left = rw comma_here.front left.value;
+          middle = pair.left;
+          right = pair.right;
+        }
 
 -- The first bad line, as a loop over the lines finds it.
 module _ (test : List ℕ → Bool) (text : List ℕ) where
@@ -328,10 +281,3 @@ pub lines_passed : (test : List ℕ → Bool) (text : List ℕ) (at count next i
 lines_passed test text at count next i p l =
     let e : i ≡ count = omega arith in
     record { none = rw e at p.none; within = p.within; rest = rw e at p.rest }
-
-module _ (test : List ℕ → Bool) (text : List ℕ) (at count : ℕ) (r : Lines) (found : LinesFound test text at count r) where
-  pub lines_ended : (next : ℕ) → r ≡ Lines.End next → LinesPassed test text at count next
-  lines_ended next e = subst (λ k. LinesFound test text at count k) e found
-
-  pub lines_failed : (line : ℕ) → r ≡ Lines.Bad line → LineBad test text at count line
-  lines_failed line e = subst (λ k. LinesFound test text at count k) e found

@@ -4,150 +4,105 @@
 // LF, is answered as a bad line.
 #![tactic(auto)]
 
-ghost use Rattle.std.specs.Prelude.{◌≡◌, ◌+◌, ◌≤◌, ◌<◌, min, length, drop};
+ghost use Rattle.std.specs.Prelude.{◌≡◌, ◌+◌, ◌≤◌, length, drop, ℕ, List, Bool};
 ghost use Rattle.text_bytes.specs.Text.{line_feed};
 ghost use Rattle.text_bytes.specs.Found.{FoundIn};
-ghost use Rattle.text_lines.specs.declared.NumberLine.TheVariants.{Value};
 ghost use Rattle.text_lines.specs.Lines.{is_number_line, number_behind, is_pair_line, is_triple_line};
 ghost use Rattle.text_lines.specs.Found.{ValueFound, NumberLineFound, PairLineFound, TripleLineFound, LinesFound, PairsRead};
-ghost use Rattle.text_lines.specs.Private.{PairFound, TripleFound};
+ghost use Rattle.text_lines.specs.Private.{PairFound, TripleFound, Passes};
 
-use text_bytes::{Found, Number, find, read_number, starts};
+use text_bytes::{find, read_number, starts};
 
 // What stands behind a line's key: from and end are positions in the text, and the LF stands at end.
 #[derive(Clone, Copy)]
-pub enum Keyed {
-    Text { from: usize, end: usize },
-    Bad,
+pub struct Keyed {
+    pub from: usize,
+    pub end: usize,
 }
 
 #[derive(Clone, Copy)]
-pub enum NumberLine {
-    Value { number: u64, next: usize },
-    Bad,
+pub struct NumberLine {
+    pub number: u64,
+    pub next: usize,
 }
 
 #[derive(Clone, Copy)]
-pub enum PairLine {
-    Both {
-        first: u64,
-        second: u64,
-        next: usize,
-    },
-    Bad,
+pub struct PairLine {
+    pub first: u64,
+    pub second: u64,
+    pub next: usize,
 }
 
 #[derive(Clone, Copy)]
-pub enum TripleLine {
-    All {
-        first: u64,
-        second: u64,
-        third: u64,
-        next: usize,
-    },
-    Bad,
+pub struct TripleLine {
+    pub first: u64,
+    pub second: u64,
+    pub third: u64,
+    pub next: usize,
 }
 
-// Where the text after so many lines of one kind starts, or the first of them that is not as described, counted from 1.
+// The first of so many lines that is not as described, counted from 1.
 #[derive(Clone, Copy)]
-pub enum Lines {
-    End(usize),
-    Bad(u64),
-}
-
-#[derive(Clone, Copy)]
-enum Pair {
-    Both { first: u64, second: u64 },
-    Bad,
-}
-
-#[derive(Clone, Copy)]
-enum Triple {
-    All { first: u64, second: u64, third: u64 },
-    Bad,
+pub struct BadLine {
+    pub line: u64,
 }
 
 // Where the first line of a text ends.
-fn line_end(text: &[u8]) -> Found
+fn line_end(text: &[u8]) -> Option<usize>
     ensures { FoundIn line_feed text.now result }
 {
     find(text, b'\n')
 }
 
-pub fn find_value(text: &[u8], at: usize, key: &[u8]) -> Keyed
+pub fn find_value(text: &[u8], at: usize, key: &[u8]) -> Option<Keyed>
     ensures { ValueFound key.now text.now at result }
 {
     if text.len() < at {
-        return Keyed::Bad;
+        return None;
     }
-    let Found::At(length) = line_end(&text[at..]) else {
-        return Keyed::Bad;
-    };
+    let length = line_end(&text[at..])?;
     let end = at + length;
-    if starts(&text[at..end], key) {
-        Keyed::Text {
-            from: at + key.len(),
-            end,
-        }
-    } else {
-        Keyed::Bad
+    if !starts(&text[at..end], key) {
+        return None;
     }
+    Some(Keyed {
+        from: at + key.len(),
+        end,
+    })
 }
 
 // The next line starts behind the LF.
-fn number_ending(number: u64, end: usize) -> NumberLine
-    requires { end < 18446744073709551615 }
-    ensures { result ≡ Value number (end + 1) }
-{
-    NumberLine::Value {
-        number,
-        next: end + 1,
-    }
-}
-
-pub fn number_line(text: &[u8], at: usize, key: &[u8]) -> NumberLine
+pub fn number_line(text: &[u8], at: usize, key: &[u8]) -> Option<NumberLine>
     ensures { NumberLineFound (is_number_line key.now) (number_behind key.now) text.now at result }
 {
-    let Keyed::Text { from, end } = find_value(text, at, key) else {
-        return NumberLine::Bad;
-    };
-    let Number::Value(number) = read_number(&text[from..end]) else {
-        return NumberLine::Bad;
-    };
-    number_ending(number, end)
+    let value = find_value(text, at, key)?;
+    let number = read_number(&text[value.from..value.end])?;
+    Some(NumberLine {
+        number,
+        next: value.end + 1,
+    })
 }
 
 // Two numbers with a comma between them.
-fn read_pair(text: &[u8]) -> Pair
+fn read_pair(text: &[u8]) -> Option<(u64, u64)>
     ensures { PairFound text.now result }
 {
-    let Found::At(length) = find(text, b',') else {
-        return Pair::Bad;
-    };
-    let Number::Value(first) = read_number(&text[..length]) else {
-        return Pair::Bad;
-    };
-    let from = length + 1;
-    let Number::Value(second) = read_number(&text[from..]) else {
-        return Pair::Bad;
-    };
-    Pair::Both { first, second }
+    let comma = find(text, b',')?;
+    let first = read_number(&text[..comma])?;
+    let second = read_number(&text[comma + 1..])?;
+    Some((first, second))
 }
 
-pub fn pair_line(text: &[u8], at: usize, key: &[u8]) -> PairLine
+pub fn pair_line(text: &[u8], at: usize, key: &[u8]) -> Option<PairLine>
     ensures { PairLineFound key.now text.now at result }
 {
-    let Keyed::Text { from, end } = find_value(text, at, key) else {
-        return PairLine::Bad;
-    };
-    let Pair::Both { first, second } = read_pair(&text[from..end]) else {
-        return PairLine::Bad;
-    };
-    PairLine::Both {
+    let value = find_value(text, at, key)?;
+    let (first, second) = read_pair(&text[value.from..value.end])?;
+    Some(PairLine {
         first,
         second,
-        next: end + 1,
-    }
+        next: value.end + 1,
+    })
 }
 
 // A position in a text: its end for one behind it, where as little stands.
@@ -155,39 +110,39 @@ fn position(text: &[u8], at: usize) -> usize
     ensures upper_bound { result ≤ length text.now }
     ensures text_value { drop result text.now ≡ drop at text.now }
 {
-    if text.len() < at {
-        return text.len();
-    }
-    at
+    at.min(text.len())
 }
 
-pub fn pair_lines(text: &[u8], at: usize, key: &[u8], count: u64) -> Lines
-    ensures { LinesFound (is_pair_line key.now) text.now at count result }
+// The same of any kind of line, passed by a function that answers where the next one starts.
+fn pass_lines<F: Fn(usize) -> Option<usize>>(
+    text: &[u8],
+    at: usize,
+    count: u64,
+    pass: F,
+) -> Result<usize, BadLine>
+    requires { F.IsAlwaysCallable pass }
+    ensures { (test : List ℕ → Bool) → Passes test text.now (F.post pass) → LinesFound test text.now at count result }
 {
     let mut next = position(text, at);
-    let mut i: u64 = 0;
-    while i < count {
-        let PairLine::Both {
-            first: _,
-            second: _,
-            next: after,
-        } = pair_line(text, next, key)
-        else {
-            return Lines::Bad(i + 1);
+    for i in 0..count {
+        let Some(after) = pass(next) else {
+            return Err(BadLine { line: i + 1 });
         };
         next = after;
-        i += 1;
     }
-    Lines::End(next)
+    Ok(next)
 }
 
-fn lesser(a: u64, b: u64) -> u64
-    ensures { result ≡ min a b }
+// Where the text after so many lines of one kind starts, or the first of them that is not as described.
+pub fn pair_lines(text: &[u8], at: usize, key: &[u8], count: u64) -> Result<usize, BadLine>
+    ensures { LinesFound (is_pair_line key.now) text.now at count result }
 {
-    if a < b {
-        return a;
-    }
-    b
+    pass_lines(
+        text,
+        at,
+        count,
+        |next| Some(pair_line(text, next, key)?.next),
+    )
 }
 
 // The pairs of so many lines into the first entries of two rows: up to the first line that is no pair, and to the end of the shorter row.
@@ -201,89 +156,50 @@ pub fn fill_pairs(
 )
     ensures { PairsRead key.now text.now at count firsts.old seconds.old firsts.new seconds.new }
 {
-    let most = lesser(count, lesser(firsts.len() as u64, seconds.len() as u64)) as usize;
+    let room = firsts.len().min(seconds.len());
+    let most = count.min(room as u64) as usize;
     let mut here = position(text, at);
-    let mut i: usize = 0;
-    while i < most {
-        let PairLine::Both {
-            first,
-            second,
-            next: after,
-        } = pair_line(text, here, key)
-        else {
+    for i in 0..most {
+        let Some(line) = pair_line(text, here, key) else {
             return;
         };
-        firsts[i] = first;
-        seconds[i] = second;
-        here = after;
-        i += 1;
+        firsts[i] = line.first;
+        seconds[i] = line.second;
+        here = line.next;
     }
 }
 
 // Three numbers with two commas between them.
-fn read_triple(text: &[u8]) -> Triple
+fn read_triple(text: &[u8]) -> Option<(u64, u64, u64)>
     ensures { TripleFound text.now result }
 {
-    let Found::At(length) = find(text, b',') else {
-        return Triple::Bad;
-    };
-    let Number::Value(first) = read_number(&text[..length]) else {
-        return Triple::Bad;
-    };
-    let rest = length + 1;
-    let Pair::Both {
-        first: second,
-        second: third,
-    } = read_pair(&text[rest..])
-    else {
-        return Triple::Bad;
-    };
-    Triple::All {
-        first,
-        second,
-        third,
-    }
+    let comma = find(text, b',')?;
+    let first = read_number(&text[..comma])?;
+    let (second, third) = read_pair(&text[comma + 1..])?;
+    Some((first, second, third))
 }
 
-pub fn triple_line(text: &[u8], at: usize, key: &[u8]) -> TripleLine
+pub fn triple_line(text: &[u8], at: usize, key: &[u8]) -> Option<TripleLine>
     ensures { TripleLineFound key.now text.now at result }
 {
-    let Keyed::Text { from, end } = find_value(text, at, key) else {
-        return TripleLine::Bad;
-    };
-    let Triple::All {
+    let value = find_value(text, at, key)?;
+    let (first, second, third) = read_triple(&text[value.from..value.end])?;
+    Some(TripleLine {
         first,
         second,
         third,
-    } = read_triple(&text[from..end])
-    else {
-        return TripleLine::Bad;
-    };
-    TripleLine::All {
-        first,
-        second,
-        third,
-        next: end + 1,
-    }
+        next: value.end + 1,
+    })
 }
 
-pub fn triple_lines(text: &[u8], at: usize, key: &[u8], count: u64) -> Lines
+// Stays: the loop that both share is pass_lines; what is left is the call with the line to pass.
+pub fn triple_lines(text: &[u8], at: usize, key: &[u8], count: u64) -> Result<usize, BadLine>
     ensures { LinesFound (is_triple_line key.now) text.now at count result }
 {
-    let mut next = position(text, at);
-    let mut i: u64 = 0;
-    while i < count {
-        let TripleLine::All {
-            first: _,
-            second: _,
-            third: _,
-            next: after,
-        } = triple_line(text, next, key)
-        else {
-            return Lines::Bad(i + 1);
-        };
-        next = after;
-        i += 1;
-    }
-    Lines::End(next)
+    pass_lines(
+        text,
+        at,
+        count,
+        |next| Some(triple_line(text, next, key)?.next),
+    )
 }

@@ -1,12 +1,12 @@
 -- Paths that begin alike: their keys rise with their order, and one byte more.
-use Prim.Native.Nat.{ℕ, suc, ◌+◌, ◌≤◌, ◌<◌}
+use Prim.Native.Nat.{ℕ, suc, ◌≤◌, ◌<◌}
 use mathlib.Core.Path.{◌≡◌, refl, ap, sym, ◌∙◌}
 use mathlib.Core.Bool.{Bool, true, false, ◌&&◌, ◌||◌, true≢false, false≢true}
 use mathlib.Core.Logic.{by_cases}
 use mathlib.Core.List.{List, [], ◌∷◌, ◌++◌, append-nil}
 use native.Mathlib.Decide.{dec_le}
 use native.Mathlib.Omega.{arith}
-use lib.ListN.{length, drop, length-append}
+use lib.ListN.{length, length-append}
 use lib.Seq.{append_snoc}
 use lib.Dec.{eqb, ltb}
 use borrow.Author.Tests.{eqb-true, eq-eqb, ltb-true, le-ltb}
@@ -14,7 +14,7 @@ use Rattle.text_bytes.specs.Text.{starts_with}
 use Rattle.text_bytes.proofs.Bytes.{and_true_both, begun_long}
 use Rattle.text_order.specs.declared.Range.{Range}
 use Rattle.text_order.specs.Order.{key_at, key_of, path_at, no_later, Rises, Narrowed, narrowed_by, narrowed_in, narrowed_all}
-use Rattle.text_order.specs.Promises.{PathsInOrder, RangeOf, RangeGoesOn, RangesHoldBeginnings, RangeHolds, NamesNarrow}
+use Rattle.text_order.specs.Promises.{PathsInOrder, RangeOf, RangesHoldBeginnings, RangeHolds, NamesNarrow}
 use Rattle.text_order.proofs.Halving.{narrows_where_keys_rise, none_left}
 
 or_true_rest : (a b : Bool) → (a || b) ≡ true → a ≡ false → b ≡ true

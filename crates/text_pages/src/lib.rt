@@ -7,14 +7,11 @@ ghost use Rattle.std.specs.Prelude.{◌≡◌, ◌+◌, length, ltb};
 ghost use Rattle.text_bytes.specs.Text.{decimal};
 ghost use Rattle.text_pages.specs.Printing.{line, number_line, pair_text, pair_line, triple_line, Put};
 
-// Whether so many bytes, from a position on, are too many for a page of this length. The sum is not formed, so that it cannot wrap.
+// Whether so many bytes, from a position on, are too many for a page of this length. A sum that would wrap is above any length.
 fn lacks_room(length: usize, at: usize, most: usize) -> bool
     ensures { result ≡ ltb length (at + most) }
 {
-    if length < at {
-        return true;
-    }
-    length - at < most
+    at.checked_add(most).is_none_or(|end| length < end)
 }
 
 pub fn put(page: &mut [u8], at: usize, text: &[u8]) -> usize
@@ -23,11 +20,7 @@ pub fn put(page: &mut [u8], at: usize, text: &[u8]) -> usize
     if lacks_room(page.len(), at, text.len()) {
         return at;
     }
-    let mut i: usize = 0;
-    while i < text.len() {
-        page[at + i] = text[i];
-        i += 1;
-    }
+    page[at..at + text.len()].copy_from_slice(text);
     at + text.len()
 }
 

@@ -1,6 +1,6 @@
 -- Paths and lines as loops go through them: a path byte by byte, the path of one line, the lines counted, and the verdict.
 use Prim.Native.Nat.{ℕ, zero, suc, ◌+◌, ◌-◌, ◌≤◌, ◌<◌}
-use mathlib.Core.Path.{◌≡◌, refl, ap, sym, ◌∙◌, subst}
+use mathlib.Core.Path.{◌≡◌, refl, ap, sym, ◌∙◌}
 use mathlib.Core.Bool.{Bool, true, false, cond, not, ◌&&◌, ◌||◌, true≢false, false≢true}
 use mathlib.Core.List.{List, [], ◌∷◌}
 use native.Mathlib.Omega.{arith}
@@ -8,17 +8,14 @@ use native.Mathlib.Numerals.{add-one}
 use lib.ListN.{length, get_or, take, drop, drop_of_length-le, length-drop}
 use lib.Seq.{drop-cons, drop-drop, length-take-le, take-nil, drop-nil}
 use lib.Dec.{eqb, ltb}
-use borrow.Author.Tests.{eq-eqb, ne_eqb, eqb-true, not-true}
+use borrow.Author.Tests.{eq-eqb, ne_eqb}
 use Rattle.refusals.specs.declared.Refusal.TheVariants.{BadLine, TooManyReads}
-use Rattle.refusals.specs.declared.Verdict.{Verdict}
 use Rattle.refusals.specs.Refusals.{refuse_if, refuse_at, first_of}
 use Rattle.text_bytes.specs.Text.{line_feed, has, starts_with}
-use Rattle.text_bytes.proofs.Bytes.{and_true_both}
-use Rattle.text_lines.specs.declared.Keyed.{Keyed}
-use Rattle.text_lines.specs.declared.Lines.{Lines}
+use Rattle.std.specs.Prelude.{Option, Some, None}
 use Rattle.text_lines.specs.Lines.{line_of, first_bad_of}
-use Rattle.text_lines.specs.Found.{ValueAt, ValueFound, Passed, LinesFound, LinesPassed, LineBad}
-use Rattle.text_lines.proofs.Passing.{value_at, line_passed, unkeyed}
+use Rattle.text_lines.specs.Found.{ValueAt, LinesPassed, LineBad}
+use Rattle.text_lines.proofs.Passing.{line_passed}
 use Rattle.text_paths.specs.declared.PathLine.{PathLine}
 use Rattle.text_paths.specs.Paths.{slash, names_from, is_path, slashes_of, asked_path, is_asked, lines_from, line_count, most_lines, paths_verdict}
 use Rattle.text_paths.specs.Rows.{PathAt, PathFound}
@@ -87,28 +84,24 @@ drop_take (suc n) zero (x ∷ xs) = let e : 0 - suc n ≡ 0 = omega arith in rw 
 drop_take (suc n) (suc m) (x ∷ xs) = let e : suc m - suc n ≡ m - n = omega arith in rw e (drop_take n m xs)
 
 -- The path of the line at a position.
-module _ (text : List ℕ) (at : ℕ) (r : Keyed) (found : ValueFound [] text at r) where
-  pub line_absent : r ≡ Keyed.Bad → is_asked (line_of (drop at text)) ≡ false
+module _ (text : List ℕ) (at : ℕ) where
+  pub line_absent : (has line_feed (drop at text) && starts_with [] (line_of (drop at text))) ≡ false → is_asked (line_of (drop at text)) ≡ false
   unfolding is_asked asked_path slashes_of names_from starts_with line_of
-  line_absent e = go (has line_feed (drop at text)) refl (unkeyed [] text at r found e)
+  line_absent none = go (has line_feed (drop at text)) refl none
     where
       go : (b : Bool) → has line_feed (drop at text) ≡ b → (b && true) ≡ false → is_asked (line_of (drop at text)) ≡ false
       go true h f = absurd (true≢false f)
       go false h f = rw h
 
-  module _ (start end : ℕ) (e : r ≡ Keyed.Text start end) where
-    pub line_bounds : (start ≤ end) × (end ≤ length text)
-    line_bounds = let v = value_at [] text at r found start end e in (omega (arith, v.ordered), omega (arith, v.within))
-
+  module _ (start end : ℕ) (v : ValueAt [] text at start end) where
     start_is : start ≡ at
-    start_is = omega (arith, (value_at [] text at r found start end e).start)
+    start_is = omega (arith, v.start)
 
     line_is_here : take (end - start) (drop start text) ≡ line_of (drop at text)
-    line_is_here = (value_at [] text at r found start end e).value
+    line_is_here = v.value
 
     line_size : end ≡ at + length (line_of (drop at text))
     line_size =
-        let v = value_at [] text at r found start end e in
         let s = start_is in
         let size : length (take (end - start) (drop start text)) ≡ end - start = length-take-le (end - start) (drop start text) (rw (length-drop start text) (omega (arith, v.within))) in
         let same = ap length line_is_here in
@@ -135,18 +128,10 @@ module _ (text : List ℕ) (at : ℕ) (r : Keyed) (found : ValueFound [] text at
       pub path_good : t ≡ true → PathAt text at from end
       path_good f =
           record {
-            passed = line_passed [] text at r found start end e is_asked (asked_is ∙ f);
+            passed = line_passed [] text at start end v is_asked (asked_is ∙ f);
             start = from_is ∙ rw (line_is_here, start_is);
             stop = line_size;
           }
-
--- What the reader of a path's line answered.
-module _ (text : List ℕ) (at : ℕ) (r : PathLine) (found : PathFound text at r) where
-  pub path_unread : r ≡ PathLine.Bad → is_asked (line_of (drop at text)) ≡ false
-  path_unread e = subst (λ k. PathFound text at k) e found
-
-  pub path_read : (from end : ℕ) → r ≡ PathLine.Path from end → PathAt text at from end
-  path_read from end e = subst (λ k. PathFound text at k) e found
 
 -- The lines counted so far, and what is left.
 pub record LinesLeft (text : List ℕ) (count : ℕ) (begun : Bool) (i : ℕ) : Type 0 where
@@ -187,23 +172,18 @@ module _ (text : List ℕ) (count : ℕ) (begun : Bool) (i : ℕ) (p : LinesLeft
   lines_whole e l = sym (p.same ∙ rw (drop_of_length-le text {i = i} l, e) (omega arith))
 
 -- 11 before 5.
-module _ (text : List ℕ) (count : ℕ) (is : count ≡ line_count text) (r : Lines) (found : LinesFound is_asked text 0 count r) where
-  pub list_bad : (line : ℕ) → r ≡ Lines.Bad line → refuse_at line BadLine ≡ paths_verdict text
+module _ (text : List ℕ) (count : ℕ) (is : count ≡ line_count text) where
+  pub list_bad : (line : ℕ) → LineBad is_asked text 0 count line → refuse_at line BadLine ≡ paths_verdict text
   unfolding paths_verdict
-  list_bad line e =
-      let bad : LineBad is_asked text 0 count line = subst (λ k. LinesFound is_asked text 0 count k) e found in
-      go line (rw is at bad.first) bad.some
+  list_bad line bad = go line (rw is at bad.first) bad.some
     where
       go : (n : ℕ) → first_bad_of is_asked (line_count text) text ≡ n → 0 < n → refuse_at n BadLine ≡ first_of (refuse_at (first_bad_of is_asked (line_count text) text) BadLine ∷ refuse_if (ltb most_lines (line_count text)) TooManyReads ∷ [])
       go zero h l = absurd (omega arith)
       go (suc n) h l = rw h
 
-  pub list_ended : (next : ℕ) → r ≡ Lines.End next → refuse_if (ltb most_lines count) TooManyReads ≡ paths_verdict text
+  pub list_ended : (next : ℕ) → LinesPassed is_asked text 0 count next → refuse_if (ltb most_lines count) TooManyReads ≡ paths_verdict text
   unfolding paths_verdict
-  list_ended next e =
-      let passed : LinesPassed is_asked text 0 count next = subst (λ k. LinesFound is_asked text 0 count k) e found in
-      let none : first_bad_of is_asked (line_count text) text ≡ 0 = rw is at passed.none in
-      go (ltb most_lines count) refl none
+  list_ended next passed = go (ltb most_lines count) refl (rw is at passed.none)
     where
       go : (b : Bool) → ltb most_lines count ≡ b → first_bad_of is_asked (line_count text) text ≡ 0
           → refuse_if (ltb most_lines count) TooManyReads ≡ first_of (refuse_at (first_bad_of is_asked (line_count text) text) BadLine ∷ refuse_if (ltb most_lines (line_count text)) TooManyReads ∷ [])
@@ -211,11 +191,11 @@ module _ (text : List ℕ) (count : ℕ) (is : count ≡ line_count text) (r : L
       go false h none = rw (none, ← is, h)
 
 -- Of two answers that fit one line, neither differs from the other.
-pub path_determined : (text : List ℕ) (at : ℕ) (r s : PathLine) → PathFound text at r → PathFound text at s → r ≡ s
-path_determined text at (PathLine.Path from end) (PathLine.Path from' end') p q =
-    let f : from ≡ from' = p.start ∙ sym q.start in
-    let e : end ≡ end' = p.stop ∙ sym q.stop in
-    cc
-path_determined text at (PathLine.Path from end) PathLine.Bad p q = absurd (true≢false (sym p.passed.good ∙ q))
-path_determined text at PathLine.Bad (PathLine.Path from end) p q = absurd (true≢false (sym q.passed.good ∙ p))
-path_determined text at PathLine.Bad PathLine.Bad p q = refl
+pub path_determined : (text : List ℕ) (at : ℕ) (r s : Option PathLine) → PathFound text at r → PathFound text at s → r ≡ s
+path_determined text at (Some path) (Some other) p q =
+    let from : path.from ≡ other.from = p.start ∙ sym q.start in
+    let end : path.end ≡ other.end = p.stop ∙ sym q.stop in
+    rw (from, end)
+path_determined text at (Some path) None p q = absurd (true≢false (sym p.passed.good ∙ q))
+path_determined text at None (Some path) p q = absurd (true≢false (sym q.passed.good ∙ p))
+path_determined text at None None p q = refl

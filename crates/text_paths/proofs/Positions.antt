@@ -5,7 +5,7 @@ use mathlib.Core.Bool.{Bool, true, false, cond}
 use mathlib.Core.List.{List, [], ◌∷◌, ◌++◌}
 use native.Mathlib.Omega.{arith}
 use native.Mathlib.Numerals.{add-one}
-use lib.ListN.{length, take, drop, set, length-append, length-drop}
+use lib.ListN.{length, take, drop, set, length-drop}
 use lib.Seq.{drop-cons, drop-drop, set_at, append_snoc}
 use lib.Dec.{eqb}
 use Rattle.text_bytes.specs.Text.{line_feed, has, before, behind}
@@ -50,12 +50,6 @@ module _ (text : List ℕ) (count most : ℕ) (starts₀ ends₀ : List ℕ) (he
 
     pub ends_long : length ends ≡ length ends₀
     ends_long = rw p.right (length_row (path_end text) i ends₀ (omega (arith, space, p.seen.few)))
-
-    pub starts_in : i < most → i < length starts
-    starts_in l = omega (arith, l, room, starts_long)
-
-    pub ends_in : i < most → i < length ends
-    ends_in l = omega (arith, l, space, ends_long)
 
     pub path_filled : i < most → (from end : ℕ) → PathAt text here from end → PathsFilling text most starts₀ ends₀ (end + 1) (i + 1) (set starts i from) (set ends i end)
     unfolding path_start path_end

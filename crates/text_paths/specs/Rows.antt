@@ -1,5 +1,5 @@
 -- Where the paths of a list stand in its text, and two rows that hold the positions.
-use Rattle.std.specs.Prelude.{ℕ, ◌+◌, ◌-◌, ◌≡◌, false, List, ◌++◌, length, drop}
+use Rattle.std.specs.Prelude.{ℕ, ◌+◌, ◌-◌, ◌≡◌, false, List, ◌++◌, length, drop, Option, Some, None}
 use Rattle.text_lines.specs.Lines.{line_of, after_lines, line_after, first_bad_of, each_of, lines_before, held_in}
 use Rattle.text_lines.specs.Found.{Passed}
 use Rattle.text_paths.specs.declared.PathLine.{PathLine}
@@ -11,9 +11,9 @@ pub record PathAt (text : List ℕ) (at from end : ℕ) : Type 0 where
   pub start : from ≡ at + slashes_of (line_of (drop at text))
   pub stop : end ≡ at + length (line_of (drop at text))
 
-abbrev pub PathFound : List ℕ → ℕ → PathLine → Type 0
-PathFound text at (PathLine.Path from end) = PathAt text at from end
-PathFound text at PathLine.Bad = is_asked (line_of (drop at text)) ≡ false
+abbrev pub PathFound : List ℕ → ℕ → Option PathLine → Type 0
+PathFound text at (Some path) = PathAt text at path.from path.end
+PathFound text at None = is_asked (line_of (drop at text)) ≡ false
 
 -- The position at which line i starts, counted from 0, and those between which its path stands.
 unfoldable pub line_start : List ℕ → ℕ → ℕ

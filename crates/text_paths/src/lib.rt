@@ -3,33 +3,31 @@
 // answers every text.
 #![tactic(auto)]
 
-ghost use Rattle.std.specs.Prelude.{◌≡◌, not, ◌&&◌, ◌+◌, ◌-◌, ◌≤◌, ◌<◌, min, length, drop, take, eqb};
+ghost use Rattle.std.specs.Prelude.{◌≡◌, not, ◌&&◌, ◌+◌, ◌-◌, ◌≤◌, ◌<◌, length, drop, take, eqb};
+ghost use Rattle.refusals.specs.Refusals.{checked};
 ghost use Rattle.text_lines.specs.Found.{LinesFound};
 ghost use Rattle.text_paths.specs.Paths.{slash, is_path, slashes_of, is_asked, line_count, paths_verdict};
 ghost use Rattle.text_paths.specs.Rows.{PathFound, PathsRead};
 ghost use Rattle.text_paths.specs.Private.{counted_at};
 
-use refusals::{Refusal, Verdict, refuse_at, refuse_if};
-use text_lines::{Keyed, Lines, find_value};
+use refusals::{Refusal, Verdict};
+use text_lines::{BadLine, Keyed, find_value};
 
 // No list has more lines.
 pub const MOST_LINES: usize = 1024;
 
 // Where the path of a line stands: from one position to another, at which the LF stands.
 #[derive(Clone, Copy)]
-pub enum PathLine {
-    Path { from: usize, end: usize },
-    Bad,
+pub struct PathLine {
+    pub from: usize,
+    pub end: usize,
 }
 
 // Whether a `/` stands where no name has begun.
 fn is_stray(begun: bool, byte: u8) -> bool
     ensures { result ≡ (not begun && eqb byte slash) }
 {
-    if begun {
-        return false;
-    }
-    byte == b'/'
+    !begun && byte == b'/'
 }
 
 // Whether a text is a path: names joined by `/`, none of them empty.
@@ -37,14 +35,11 @@ pub fn is_path(text: &[u8]) -> bool
     ensures { result ≡ is_path text.now }
 {
     let mut begun = false;
-    let mut i: usize = 0;
-    while i < text.len() {
-        let byte = text[i];
+    for &byte in text {
         if is_stray(begun, byte) {
             return false;
         }
         begun = byte != b'/';
-        i += 1;
     }
     begun
 }
@@ -64,17 +59,15 @@ fn behind_slash(text: &[u8], at: usize, end: usize) -> usize
 }
 
 // The path on the line that starts at a position. One `/` before it means nothing.
-pub fn path_line(text: &[u8], at: usize) -> PathLine
+pub fn path_line(text: &[u8], at: usize) -> Option<PathLine>
     ensures { PathFound text.now at result }
 {
-    let Keyed::Text { from: start, end } = find_value(text, at, b"") else {
-        return PathLine::Bad;
-    };
+    let Keyed { from: start, end } = find_value(text, at, b"")?;
     let from = behind_slash(text, start, end);
-    if is_path(&text[from..end]) {
-        return PathLine::Path { from, end };
+    if !is_path(&text[from..end]) {
+        return None;
     }
-    PathLine::Bad
+    Some(PathLine { from, end })
 }
 
 // One more where a line ends.
@@ -94,12 +87,9 @@ pub fn count_lines(text: &[u8]) -> usize
 {
     let mut count: usize = 0;
     let mut begun = false;
-    let mut i: usize = 0;
-    while i < text.len() {
-        let byte = text[i];
+    for &byte in text {
         count = counted(count, byte);
         begun = byte != b'\n';
-        i += 1;
     }
     if begun {
         return count + 1;
@@ -108,46 +98,28 @@ pub fn count_lines(text: &[u8]) -> usize
 }
 
 // So many lines that each ask for something, or the first that does not.
-fn path_lines(text: &[u8], count: usize) -> Lines
+fn path_lines(text: &[u8], count: usize) -> Result<usize, BadLine>
     ensures { LinesFound is_asked text.now 0 count result }
 {
-    let mut here: usize = 0;
-    let mut i: usize = 0;
-    while i < count {
-        let PathLine::Path { from: _, end } = path_line(text, here) else {
-            return Lines::Bad(wide(i + 1));
+    let mut next: usize = 0;
+    for i in 0..count {
+        let Some(path) = path_line(text, next) else {
+            return Err(BadLine { line: i as u64 + 1 });
         };
-        here = end + 1;
-        i += 1;
+        next = path.end + 1;
     }
-    Lines::End(here)
-}
-
-fn wide(n: usize) -> u64
-    ensures { result ≡ n }
-{
-    n as u64
+    Ok(next)
 }
 
 // 11 with the line, or 5.
-pub fn judge_list(text: &[u8]) -> Verdict
-    ensures { result ≡ paths_verdict text.now }
+pub fn judge_list(text: &[u8]) -> Result<(), Verdict>
+    ensures { result ≡ checked (paths_verdict text.now) }
 {
     let count = count_lines(text);
-    let lines = path_lines(text, count);
-    match lines {
-        Lines::Bad(line) => refuse_at(line, Refusal::BadLine),
-        Lines::End(_) => refuse_if(MOST_LINES < count, Refusal::TooManyReads),
+    match path_lines(text, count) {
+        Err(bad) => Refusal::BadLine.at(bad.line),
+        Ok(_) => Refusal::TooManyReads.when(MOST_LINES < count),
     }
-}
-
-fn lesser(a: usize, b: usize) -> usize
-    ensures { result ≡ min a b }
-{
-    if a < b {
-        return a;
-    }
-    b
 }
 
 // Where the paths of so many lines stand, into the first entries of two rows: up to the first line that asks for nothing, and to the end of the
@@ -155,16 +127,15 @@ fn lesser(a: usize, b: usize) -> usize
 pub fn fill_paths(text: &[u8], count: usize, starts: &mut [usize], ends: &mut [usize])
     ensures { PathsRead text.now count starts.old ends.old starts.new ends.new }
 {
-    let most = lesser(count, lesser(starts.len(), ends.len()));
-    let mut here: usize = 0;
-    let mut i: usize = 0;
-    while i < most {
-        let PathLine::Path { from, end } = path_line(text, here) else {
+    let room = starts.len().min(ends.len());
+    let most = count.min(room);
+    let mut next: usize = 0;
+    for i in 0..most {
+        let Some(path) = path_line(text, next) else {
             return;
         };
-        starts[i] = from;
-        ends[i] = end;
-        here = end + 1;
-        i += 1;
+        starts[i] = path.from;
+        ends[i] = path.end;
+        next = path.end + 1;
     }
 }

@@ -1,20 +1,19 @@
 -- Digits, characters' numbers and their bytes, as the tests go.
 use Prim.Native.Nat.{ℕ, ◌+◌, ◌-◌, ◌*◌, ◌/◌, ◌≤◌, ◌<◌, min}
-use mathlib.Core.Path.{◌≡◌, refl, ap, sym, ◌∙◌}
-use mathlib.Core.Bool.{Bool, true, false, cond, not, ◌&&◌, ◌||◌, and-false, or-true, false≢true}
-use mathlib.Core.List.{List, [], ◌∷◌}
+use mathlib.Core.Path.{◌≡◌, ap, sym, ◌∙◌}
+use mathlib.Core.Bool.{Bool, true, false, not}
+use mathlib.Core.List.{[], ◌∷◌}
 use mathlib.Core.Logic.{by_cases}
 use native.Mathlib.Decide.{dec_le}
 use native.Mathlib.Omega.{arith}
-use lib.Dec.{leb, ltb, eqb}
+use lib.Dec.{leb, ltb}
 use borrow.Author.Tests.{le-leb, lt-leb, lt-ltb, le-ltb, leb-true}
 use Rattle.text_bytes.specs.Text.{between, is_digit}
 use Rattle.text_bytes.proofs.Bytes.{and_true_both}
-use Rattle.text_references.specs.declared.Digit.{Digit}
 use Rattle.text_references.specs.declared.Reading.{Reading}
-use Rattle.text_references.specs.References.{is_character, is_hex_digit, hex_digit, later_byte, utf8}
+use Rattle.text_references.specs.References.{is_character, later_byte, utf8}
 use Rattle.text_references.specs.Readings.{too_far, read_next}
-use Rattle.text_references.specs.Private.{HexDigitFound, long_bytes}
+use Rattle.text_references.specs.Private.{long_bytes}
 
 -- A byte between two others.
 pub record Within (least most b : ℕ) : Type 0 where
@@ -64,34 +63,6 @@ decimal_more n b value d e = rw d (ap Reading.Decimal (e ∙ cap_again 10 n (b -
 
 pub decimal_none : (n b : ℕ) → is_digit b ≡ false → Reading.Dead ≡ read_next (Reading.Decimal n) b
 decimal_none n b d = rw d
-
--- A hexadecimal digit, by which of three kinds it is.
-module _ (b value : ℕ) where
-  pub hex_decimal : is_digit b ≡ true → Within 48 57 b → value ≡ b - 48 → HexDigitFound b (Digit.Value value)
-  hex_decimal d w e = (rw d, rw d e, omega (arith, w.low, w.high))
-
-  pub hex_lower : is_digit b ≡ false → between 97 102 b ≡ true → Within 97 102 b → value ≡ b - 87 → HexDigitFound b (Digit.Value value)
-  hex_lower d l w e = (rw (d, l), rw (d, l) e, omega (arith, w.low, w.high))
-
-  pub hex_upper : is_digit b ≡ false → between 97 102 b ≡ false → between 65 70 b ≡ true → Within 65 70 b → value ≡ b - 55 → HexDigitFound b (Digit.Value value)
-  hex_upper d l u w e = (rw (d, l, u), rw (d, l) e, omega (arith, w.low, w.high))
-
-pub hex_none : (b : ℕ) → is_digit b ≡ false → between 97 102 b ≡ false → between 65 70 b ≡ false → is_hex_digit b ≡ false
-hex_none b d l u = rw (d, l, u)
-
-module _ (n b : ℕ) (r : Digit) (found : HexDigitFound b r) where
-  pub hex_dead : r ≡ Digit.No → Reading.Dead ≡ read_next (Reading.Hex n) b
-  hex_dead e = let f : is_hex_digit b ≡ false = mathlib.Core.Path.subst (λ k. HexDigitFound b k) e found in rw f
-
-  module _ (digit : ℕ) (e : r ≡ Digit.Value digit) where
-    hex_is : (is_hex_digit b ≡ true) × (digit ≡ hex_digit b) × (digit < 16)
-    hex_is = mathlib.Core.Path.subst (λ k. HexDigitFound b k) e found
-
-    pub hex_small : digit < 16
-    hex_small = hex_is.2
-
-    pub hex_more : (value : ℕ) → value ≡ min too_far (min too_far n * 16 + digit) → Reading.Hex value ≡ read_next (Reading.Hex n) b
-    hex_more value v = rw hex_is.0 (ap Reading.Hex (v ∙ cap_again 16 n digit (omega arith) ∙ rw hex_is.1))
 
 -- The bytes of a character.
 module _ (n : ℕ) where

@@ -1,17 +1,16 @@
 -- A name decoded from left to right.
-use Prim.Native.Nat.{ℕ, suc, zero}
+use Prim.Native.Nat.{ℕ, suc}
 use mathlib.Core.Path.{◌≡◌, refl, ap, sym, ◌∙◌}
-use mathlib.Core.Bool.{Bool, true, false, cond, not, ◌&&◌, ◌||◌, and-false, or-true, true≢false, false≢true}
+use mathlib.Core.Bool.{Bool, true, false, cond, not, ◌||◌, true≢false}
 use mathlib.Core.List.{List, [], ◌∷◌, ◌++◌, append_assoc, append-nil}
-use native.Mathlib.Omega.{arith}
 use lib.ListN.{length, drop}
 use lib.Dec.{eqb}
-use borrow.Author.Tests.{eq-eqb, eqb-true}
+use borrow.Author.Tests.{eqb-true}
 use Rattle.text_bytes.specs.Text.{bytes, has, before, starts_with, is_text, all_of, is_digit}
 use Rattle.text_bytes.proofs.Bytes.{and_true_both}
 use Rattle.text_bytes.proofs.Split.{has_here, before_here, key_split, whole_key}
 use Rattle.text_references.specs.References.{ampersand, semicolon, is_hex_digit, numbered, character_of, reference_in, decoded_behind, decoded, utf8}
-use Rattle.text_references.specs.Promises.{Ended, EndedBy, ByteDecoded, BytesSayThemselves, Written, ReferenceBegun, BegunSaysItself, said_by, ReferenceEnded, EndedSaysCharacter}
+use Rattle.text_references.specs.Promises.{BytesSayThemselves, Written, BegunSaysItself, said_by, EndedSaysCharacter}
 
 or_false_both : (a b : Bool) → (a || b) ≡ false → (a ≡ false) × (b ≡ false)
 or_false_both true b e = absurd (true≢false e)

@@ -1,7 +1,7 @@
 -- Byte by byte a reading comes to the character that is written.
-use Prim.Native.Nat.{ℕ, suc, ◌+◌, ◌-◌, ◌*◌, ◌≤◌, ◌<◌, min}
-use mathlib.Core.Path.{◌≡◌, refl, ap, sym, ◌∙◌}
-use mathlib.Core.Bool.{Bool, true, false, cond, not, ◌&&◌, ◌||◌, and-false}
+use Prim.Native.Nat.{ℕ, ◌+◌, ◌-◌, ◌*◌, ◌≤◌, min}
+use mathlib.Core.Path.{◌≡◌, refl, sym, ◌∙◌}
+use mathlib.Core.Bool.{Bool, true, false, cond, ◌&&◌, and-false}
 use mathlib.Core.Logic.{by_cases}
 use mathlib.Core.List.{List, [], ◌∷◌}
 use native.Mathlib.Decide.{dec_le}
@@ -12,8 +12,8 @@ use borrow.Author.Tests.{eq-eqb, ne_eqb, eqb-true, eqb-false, lt-leb}
 use Rattle.text_bytes.specs.Text.{bytes, starts_with, is_text, all_of, is_digit, value_from}
 use Rattle.text_bytes.proofs.Bytes.{digit_bounds}
 use Rattle.text_references.specs.declared.Reading.{Reading}
-use Rattle.text_references.specs.References.{is_character, is_hex_digit, hex_digit, hex_from, numbered, character_of}
-use Rattle.text_references.specs.Readings.{too_far, unread, read_next, read_behind, numbered_by, of_two, of_three, of_four, are_four, character_in}
+use Rattle.text_references.specs.References.{is_hex_digit, hex_digit, hex_from, numbered, character_of}
+use Rattle.text_references.specs.Readings.{too_far, unread, read_behind, numbered_by, of_four, are_four, character_in}
 use Rattle.text_references.specs.Promises.{ReadingsSayCharacters}
 use Rattle.text_references.proofs.Digits.{cap_again}
 

@@ -3,7 +3,7 @@
 // answers every input, and its contract is an equation with a definition there.
 #![tactic(auto)]
 
-ghost use Rattle.std.specs.Prelude.{◌≡◌, ◌<◌, ◌≤◌, min};
+ghost use Rattle.std.specs.Prelude.{◌≡◌, ◌≤◌, min};
 ghost use Rattle.text_references.specs.declared.Reading.{Reading};
 ghost use Rattle.text_references.specs.References.{is_character, later_byte, utf8};
 ghost use Rattle.text_references.specs.Readings.{too_far, next_letter, read_next, numbered_by, of_two, of_three, are_four, of_four, of_letters, character_in, Holds};
@@ -25,12 +25,6 @@ pub enum Reading {
     Decimal(u64),
     Hex(u64),
     Dead,
-}
-
-#[derive(Clone, Copy)]
-enum Digit {
-    Value(u64),
-    No,
 }
 
 // A character's bytes: so many of these four.
@@ -89,20 +83,11 @@ fn next_letter(count: u8, first: u8, second: u8, third: u8, byte: u8) -> Reading
     Reading::Dead
 }
 
-fn wide(byte: u8) -> u64
-    ensures { result ≡ byte }
-{
-    byte as u64
-}
-
 // A number, or one that no character has.
 fn capped(number: u64) -> u64
     ensures { result ≡ min too_far number }
 {
-    if number < 1114112 {
-        return number;
-    }
-    1114112
+    number.min(1114112)
 }
 
 // The byte behind `&#`.
@@ -110,7 +95,7 @@ fn behind_hash(byte: u8) -> Reading
     ensures { result ≡ read_next Reading.Hash byte }
 {
     if is_between(b'0', b'9', byte) {
-        return Reading::Decimal(wide(byte - b'0'));
+        return Reading::Decimal(u64::from(byte - b'0'));
     }
     if byte == b'x' {
         return Reading::Hex(0);
@@ -122,31 +107,31 @@ fn next_decimal(number: u64, byte: u8) -> Reading
     ensures { result ≡ read_next (Reading.Decimal number) byte }
 {
     if is_between(b'0', b'9', byte) {
-        return Reading::Decimal(capped(capped(number) * 10 + wide(byte - b'0')));
+        return Reading::Decimal(capped(capped(number) * 10 + u64::from(byte - b'0')));
     }
     Reading::Dead
 }
 
 // The value of a hexadecimal digit.
-fn hex_digit(byte: u8) -> Digit
+fn hex_digit(byte: u8) -> Option<u64>
     ensures { HexDigitFound byte result }
 {
     if is_between(b'0', b'9', byte) {
-        return Digit::Value(wide(byte - b'0'));
+        return Some(u64::from(byte - b'0'));
     }
     if is_between(b'a', b'f', byte) {
-        return Digit::Value(wide(byte - 87));
+        return Some(u64::from(byte - 87));
     }
     if is_between(b'A', b'F', byte) {
-        return Digit::Value(wide(byte - 55));
+        return Some(u64::from(byte - 55));
     }
-    Digit::No
+    None
 }
 
 fn next_hex(number: u64, byte: u8) -> Reading
     ensures { result ≡ read_next (Reading.Hex number) byte }
 {
-    let Digit::Value(digit) = hex_digit(byte) else {
+    let Some(digit) = hex_digit(byte) else {
         return Reading::Dead;
     };
     Reading::Hex(capped(capped(number) * 16 + digit))
@@ -270,6 +255,7 @@ fn of_letters(count: u8, first: u8, second: u8, third: u8, fourth: u8) -> u64
 }
 
 // The character that a reading comes to where a `;` follows it, 0 for none.
+// Stays: the promise `ReadingsSayCharacters` sets it equal to `character_of`, a number that is 0 where there is no character, so that it is no Option.
 pub fn character_in(reading: Reading) -> u64
     ensures { result ≡ character_in reading }
 {
@@ -288,19 +274,11 @@ pub fn character_in(reading: Reading) -> u64
     }
 }
 
-// A byte of a number that fits it.
-fn narrow(number: u64) -> u8
-    requires { number < 256 }
-    ensures { result ≡ number }
-{
-    number as u8
-}
-
 // The last six bits of a number, as a byte behind the first.
 fn later_byte(number: u64) -> u8
     ensures { result ≡ later_byte number }
 {
-    narrow(128 + number % 64)
+    (128 + number % 64) as u8
 }
 
 // A character of three or four bytes, by its last two.
@@ -311,7 +289,7 @@ fn encode_long(number: u64, third: u8, last: u8) -> Utf8
     if number < 65536 {
         return Utf8 {
             count: 3,
-            first: narrow(224 + number / 4096),
+            first: (224 + number / 4096) as u8,
             second: third,
             third: last,
             fourth: 0,
@@ -319,7 +297,7 @@ fn encode_long(number: u64, third: u8, last: u8) -> Utf8
     }
     Utf8 {
         count: 4,
-        first: narrow(240 + number / 262144),
+        first: (240 + number / 262144) as u8,
         second: later_byte(number / 4096),
         third,
         fourth: last,
@@ -342,7 +320,7 @@ pub fn encode(number: u64) -> Utf8
     if number < 128 {
         return Utf8 {
             count: 1,
-            first: narrow(number),
+            first: number as u8,
             second: 0,
             third: 0,
             fourth: 0,
@@ -352,7 +330,7 @@ pub fn encode(number: u64) -> Utf8
     if number < 2048 {
         return Utf8 {
             count: 2,
-            first: narrow(192 + number / 64),
+            first: (192 + number / 64) as u8,
             second: last,
             third: 0,
             fourth: 0,

@@ -9,13 +9,12 @@ use native.Mathlib.Omega.{arith}
 use native.Mathlib.Decide.{dec_lt}
 use lib.ListN.{length, get_or}
 use lib.Dec.{leb, ltb, eqb}
-use borrow.Author.Tests.{lt-ltb, le-ltb, ltb-true, ltb-false, leb-true, leb-false, eq-eqb, ne_eqb, eqb-true, not-false}
-use Rattle.refusals.specs.declared.Refusal.{Refusal}
+use borrow.Author.Tests.{lt-ltb, le-ltb, leb-false, eq-eqb, ne_eqb, eqb-true, not-false}
 use Rattle.refusals.specs.declared.Refusal.TheVariants.{HeadPlace, ShortRow, BadEntry}
 use Rattle.refusals.specs.declared.Verdict.{Verdict}
 use Rattle.refusals.specs.Refusals.{is_refusal, refuse_if, refuse_at, first_of, first_where}
-use Rattle.refusals.proofs.Verdicts.{refuses, first_refuses, all_accept, accepts_if, accepts_at}
-use Rattle.runs.specs.Run.{Run, Stop, merged, join_to, joined, want_stops, want_stops_of, stops_of}
+use Rattle.refusals.proofs.Verdicts.{refuses, first_refuses, first_alone, all_accept, accepts_if, accepts_at}
+use Rattle.runs.specs.Run.{Run, Stop, join_to, joined, want_stops_of, stops_of}
 use Rattle.runs.specs.Rows.{stop_at}
 use Rattle.runs.specs.Lists.{Detour, list_of, entry_of, bad_entry, first_bad_entry, WellFormed, list_verdict}
 use Rattle.runs.specs.Judging.{judge_of}
@@ -115,6 +114,11 @@ module _ (m : ℕ) (ss : List Stop) (froms tos : List ℕ) where
   pub uneven_same : (length froms ≡ length tos → ⊥) → list_verdict ss froms tos ≡ list_verdict_any m ss froms tos
   unfolding list_verdict list_verdict_any
   uneven_same n = rw (ne_eqb (length froms) (length tos) n)
+
+  -- A verdict of a list is a row of checks, so it is the first of itself alone.
+  pub list_alone : first_of (list_verdict ss froms tos ∷ []) ≡ list_verdict ss froms tos
+  unfolding list_verdict
+  list_alone = first_alone (refuse_if (not (eqb (length froms) (length tos))) BadEntry ∷ refuse_at (first_bad_entry ss (list_of froms tos)) BadEntry ∷ [])
 
   place_at : (p : ℕ) → (first_of (refuse_at p BadEntry ∷ [])).place ≡ p
   place_at zero = refl

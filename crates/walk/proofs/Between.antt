@@ -1,20 +1,19 @@
 -- Which detours read a file, by numbers alone: those from whose start to whose end its stop's name lies. Starts and ends rise with the number.
-use Prim.Native.Nat.{ℕ, suc, ◌+◌, ◌-◌, ◌≤◌, ◌<◌}
+use Prim.Native.Nat.{ℕ, suc, ◌-◌, ◌≤◌, ◌<◌}
 use mathlib.Core.Path.{◌≡◌, refl, ap, sym, ◌∙◌}
-use mathlib.Core.Bool.{Bool, true, false, not, ◌||◌, ◌&&◌}
+use mathlib.Core.Bool.{false, not, ◌&&◌}
 use mathlib.Core.Logic.{⊎_elim}
 use mathlib.Core.List.{List, [], ◌∷◌}
 use native.Mathlib.Omega.{arith}
 use native.Mathlib.Decide.{dec_lt}
-use native.Mathlib.Numerals.{add-one}
-use lib.ListN.{length, get_or, drop, drop_of_length-le}
-use lib.Seq.{drop-cons}
+use lib.ListN.{length, get_or}
 use lib.Dec.{leb}
+use Rattle.std.specs.List.{list_any, zip}
 use Rattle.runs.specs.Run.{end_at, goes_on, first_member, last_member, first_file, stop_of}
 use Rattle.walk.specs.Walk.{served}
 use Rattle.runs.specs.Private.{SoundTable, InTable}
 use Rattle.runs.specs.AnyHead.{smaller}
-use Rattle.walk.specs.Private.{leg_start, right_of, detour_legs, Tabled, ListFits, read_by_number}
+use Rattle.walk.specs.Private.{leg_start, right_of, detour_legs, Tabled, ListFits, RowsFit, Behind, read_by_number}
 use Rattle.runs.proofs.Search.{ltb_same, leb_not_ltb}
 use Rattle.runs.proofs.Members.{first_stays, first_below, first_begins, last_above, last_within_lem, member_last, same_last, same_or_apart}
 use Rattle.runs.proofs.Stops.{first_file_lem}
@@ -107,32 +106,16 @@ module _ (starts lengths aggregates : List ℕ) (t : Tabled starts lengths aggre
       let rest = by_number m froms tos (list_rest a b froms tos fits) (λ i l h. behind (suc i) (omega arith) h) in
       rw (left_by_number m a (fits.lefts 0 (omega arith)) here.0 (behind 0 (omega arith)), right_by_number b (fits.rights 0 (omega arith)) here.1, rest)
 
--- The search, as the loop has it: what is left of the rows decides.
-abbrev pub Searching : List ℕ → List ℕ → ℕ → ℕ → Type 0
-Searching froms tos first i = read_by_number (drop i froms) (drop i tos) first ≡ read_by_number froms tos first
+-- So the numbers say which wants the detours of a list read.
+pub wants_by_number : (starts lengths aggregates numbers froms tos : List ℕ) → RowsFit starts lengths aggregates numbers froms tos
+    → (m : ℕ) → Behind m starts aggregates numbers froms → (j : ℕ) → j < length numbers
+    → served (detour_legs m starts lengths aggregates froms tos) (stop_of starts lengths aggregates (get_or numbers j 0) 0) ≡ read_by_number froms tos (first_file aggregates (get_or numbers j 0))
+wants_by_number starts lengths aggregates numbers froms tos fits m behind j l =
+    by_number starts lengths aggregates fits.list.table (get_or numbers j 0) (fits.wants j l) m froms tos fits.list (λ i k h. behind i j k l h)
 
-module _ (froms tos : List ℕ) (first : ℕ) where
-  pub search_start : Searching froms tos first 0
-  search_start = start froms tos
-    where
-      start : (froms tos : List ℕ) → read_by_number (drop 0 froms) (drop 0 tos) first ≡ read_by_number froms tos first
-      start [] [] = refl
-      start [] (b ∷ tos) = refl
-      start (a ∷ froms) [] = refl
-      start (a ∷ froms) (b ∷ tos) = refl
-
-  pub found_none : (i : ℕ) → Searching froms tos first i → length froms ≤ i → false ≡ read_by_number froms tos first
-  unfolding read_by_number
-  found_none i p l = rw (drop_of_length-le froms l) at p
-
-  module _ (i : ℕ) (p : Searching froms tos first i) (even : length froms ≡ length tos) (l : i < length froms) (t : Bool)
-      (test : t ≡ (leb (get_or froms i 0) first && leb first (get_or tos i 0))) where
-    splits : read_by_number (drop i froms) (drop i tos) first ≡ (t || read_by_number (drop (i + 1) froms) (drop (i + 1) tos) first)
-    unfolding read_by_number
-    splits = rw (add-one, drop-cons froms i 0 l, drop-cons tos i 0 (omega arith), test)
-
-    pub found_here : t ≡ true → true ≡ read_by_number froms tos first
-    found_here e = rw (splits, e) at p
-
-    pub search_on : t ≡ false → Searching froms tos first (i + 1)
-    search_on e = rw (splits, e) at p
+-- The search, as `any` has it.
+pub read_by_number-list_any : (froms tos : List ℕ) (first : ℕ) → list_any (λ (p : ℕ × ℕ). leb p.0 first && leb first p.1) (zip froms tos) ≡ read_by_number froms tos first
+unfolding read_by_number
+read_by_number-list_any [] tos first = refl
+read_by_number-list_any (a ∷ froms) [] first = refl
+read_by_number-list_any (a ∷ froms) (b ∷ tos) first = rw (read_by_number-list_any froms tos first)

@@ -83,15 +83,6 @@ pub record RowFilling (f : Stop → ℕ) (stops : List Stop) (row₀ row : List 
   pub rest : drop i row ≡ drop i row₀
 
 module _ (f : Stop → ℕ) where
-  row_start : (stops : List Stop) (row : List ℕ) → RowFilling f stops row row 0
-  row_start stops row = record { same = refl; done = start row stops; rest = refl }
-    where
-      start : (row : List ℕ) (stops : List Stop) → take 0 row ++ map f (drop 0 stops) ≡ map f stops
-      start [] [] = refl
-      start [] (s ∷ ss) = refl
-      start (x ∷ row) [] = refl
-      start (x ∷ row) (s ∷ ss) = refl
-
   row_on : (stops : List Stop) (row₀ row : List ℕ) (i : ℕ) → RowFilling f stops row₀ row i → (s : Stop) → drop i stops ≡ s ∷ drop (i + 1) stops
       → (n : ℕ) → n ≡ f s → i < length row → RowFilling f stops row₀ (set row i n) (i + 1)
   row_on stops row₀ row i p s next n is l =
@@ -110,19 +101,6 @@ pub record Filling (gs : List Leg) (head turn : ℕ) (stops : List Stop) (counts
   pub numbered : RowFilling (leg_for gs) stops legs₀ legs i
   pub whole : sum + sum_of turn (head_at head) gs (drop i stops) ≡ sum_of turn (head_at head) gs stops
   pub small : sum + time_most * total (drop i counts) ≤ time_most * total counts
-
--- Nothing filled yet.
-pub filling_start : (gs : List Leg) (head turn : ℕ) (stops : List Stop) (counts times legs : List ℕ) → Filling gs head turn stops counts times legs times legs 0 0
-filling_start gs head turn stops counts times legs =
-    record { within = omega arith; timed = row_start _ stops times; numbered = row_start _ stops legs; whole = added stops; small = reads_left_here counts }
-  where
-    added : (stops : List Stop) → 0 + sum_of turn (head_at head) gs (drop 0 stops) ≡ sum_of turn (head_at head) gs stops
-    added [] = omega arith
-    added (s ∷ ss) = omega arith
-
-    reads_left_here : (counts : List ℕ) → 0 + time_most * total (drop 0 counts) ≤ time_most * total counts
-    reads_left_here [] = omega arith
-    reads_left_here (c ∷ cs) = omega arith
 
 module _ (starts lengths aggregates ns cs : List ℕ) (equal : length cs ≡ length ns) (gs : List Leg) (head turn : ℕ) (times₀ legs₀ times legs : List ℕ) (sum i : ℕ)
     (p : Filling gs head turn (want_stops starts lengths aggregates ns cs) cs times₀ legs₀ times legs sum i) where

@@ -1,11 +1,9 @@
 -- The legs of a list as the rows hold them, and a walk over them within the limits: no clock wraps, and each step is the machine's.
-use Prim.Native.Nat.{ℕ, zero, suc, ◌+◌, ◌-◌, ◌*◌, ◌≤◌, ◌<◌, ◌^◌}
+use Prim.Native.Nat.{ℕ, zero, suc, ◌+◌, ◌*◌, ◌≤◌, ◌<◌, ◌^◌}
 use mathlib.Core.Path.{◌≡◌, refl, ap, sym, ◌∙◌}
 use mathlib.Core.Bool.{Bool, true, false, ◌&&◌}
 use mathlib.Core.List.{List, [], ◌∷◌}
 use native.Mathlib.Omega.{arith}
-use mir.Syntax.{w64}
-use mir.Val.{Fits}
 use native.Mathlib.Numerals.{add-one}
 use lib.ListN.{length, get_or, drop, length-append, drop_of_length-le, get_or-append}
 use lib.Seq.{drop-cons, get_or-append-add}
@@ -17,13 +15,6 @@ use Rattle.runs.specs.Run.{Stop, last_place}
 use Rattle.walk.specs.Walk.{head_at, run_right, set_off, after_leg, Moves, walked, time_of, leg_from, leg_for}
 use Rattle.walk.specs.Private.{leg_start, right_of, detour_legs, sweep_legs, row_legs, leg_at, Walkable, read_of}
 use Rattle.walk.proofs.Steps.{ready_place, set_off_clock, read_inside}
-
--- A number below one that fits has a next one that fits, and fewer are left behind it.
-pub next_fits : (i n : ℕ) → i < n → Fits w64 n → Fits w64 (i + 1)
-next_fits i n h f = omega (arith, f.fits)
-
-pub left_falls : (i n : ℕ) → i < n → n - (i + 1) < n - i
-left_falls i n h = omega arith
 
 module _ (m : ℕ) (starts lengths aggregates : List ℕ) where
   pub length_detours : (froms tos : List ℕ) → length froms ≡ length tos → length (detour_legs m starts lengths aggregates froms tos) ≡ length froms
@@ -103,10 +94,6 @@ pub record Walking (gs : List Leg) (h : Head) (i : ℕ) : Type 0 where
   pub near : h.place ≤ last_place
   pub early : h.clock ≤ i * leg_most
 
-pub walking_start : (gs : List Leg) (head turn : ℕ) → Walkable gs head turn → Walking gs (head_at head) 0
-walking_start [] head turn w = record { within = omega arith; moves = w.moves; near = w.near; early = omega arith }
-walking_start (g ∷ gs) head turn w = record { within = omega arith; moves = w.moves; near = w.near; early = omega arith }
-
 -- The next leg, and what is known of it.
 pub record NextLeg (gs : List Leg) (h : Head) (i turn : ℕ) (g : Leg) : Type 0 where
   pub split : drop i gs ≡ g ∷ drop (i + 1) gs
@@ -142,19 +129,12 @@ module _ (gs : List Leg) (head turn : ℕ) (w : Walkable gs head turn) (h : Head
   pub walking_on : (g : Leg) → NextLeg gs h i turn g → Walking gs (after_leg turn h g) (i + 1)
   walking_on g n = record { within = omega arith; moves = n.then; near = n.on_tape; early = n.clock }
 
-drop_none : (gs : List Leg) → drop 0 gs ≡ gs
-drop_none [] = refl
-drop_none (g ∷ gs) = refl
-
 -- The walk's end, as the loop has it: the legs that are left lead from here to the same end.
 pub record Ending (gs : List Leg) (head turn : ℕ) (h : Head) (i : ℕ) : Type 0 where
   pub walking : Walking gs h i
   pub same : walked turn h (drop i gs) ≡ walked turn (head_at head) gs
 
 module _ (gs : List Leg) (head turn : ℕ) where
-  pub ending_start : Walkable gs head turn → Ending gs head turn (head_at head) 0
-  ending_start w = record { walking = walking_start gs head turn w; same = ap (walked turn (head_at head)) (drop_none gs) }
-
   module _ (h : Head) (i : ℕ) (p : Ending gs head turn h i) where
     pub ending_on : Walkable gs head turn → (l : i < length gs) (g : Leg) → NextLeg gs h i turn g → Ending gs head turn (after_leg turn h g) (i + 1)
     unfolding walked
@@ -175,10 +155,6 @@ same_read : {t t' n n' : ℕ} → t ≡ t' → n ≡ n' → ◌≡◌ {A = Read}
 same_read e f = rw (e, f)
 
 module _ (gs : List Leg) (head turn : ℕ) (s : Stop) where
-  pub timing_start : Walkable gs head turn → Timing gs head turn s (head_at head) 0
-  timing_start w =
-      record { walking = walking_start gs head turn w; time = ap (λ x. time_of turn (head_at head) x s) (drop_none gs); leg = ap (λ x. leg_from 1 x s) (drop_none gs) }
-
   module _ (h : Head) (i : ℕ) (p : Timing gs head turn s h i) where
     module _ (g : Leg) (n : NextLeg gs h i turn g) where
       module _ (t : Bool) (test : t ≡ (leb g.left s.start && leb s.end g.right)) where

@@ -1,20 +1,19 @@
 -- The searches for the head's own stop and for an entry that starts right of it, as the loops have them.
 use Prim.Native.Nat.{ℕ, zero, suc, ◌+◌, ◌-◌, ◌≤◌, ◌<◌}
-use mathlib.Core.Path.{◌≡◌, refl, sym, ap, ◌∙◌}
+use mathlib.Core.Path.{◌≡◌, refl, sym, ◌∙◌}
 use mathlib.Core.Bool.{Bool, true, false}
 use mathlib.Core.Logic.{◌⊎◌, inl, inr, ⊎_elim}
-use mathlib.Core.List.{List, [], ◌∷◌}
+use mathlib.Core.List.{List}
 use native.Mathlib.Omega.{arith}
 use native.Mathlib.Numerals.{add-one}
 use native.Mathlib.Nat.{eq-or-lt_of_le}
 use lib.ListN.{length, get_or, drop, drop_of_length-le}
-use lib.Dec.{leb}
 use borrow.Author.Tests.{le-leb, lt-leb}
 use Rattle.refusals.specs.Refusals.{first_where, one_more}
-use Rattle.runs.specs.Run.{Stop, first_member, want_stops}
+use Rattle.runs.specs.Run.{first_member, want_stops}
 use Rattle.runs.specs.Private.{earlier_of}
 use Rattle.walk.specs.Private.{left_of, own_name}
-use Rattle.runs.proofs.Search.{first_none, first_more, first_here, first_done, earlier_none, earlier_second, earlier_first}
+use Rattle.runs.proofs.Search.{first_none, first_more, first_here, earlier_none, earlier_second, earlier_first}
 use Rattle.runs.proofs.Stops.{first_file_lem, wants_length, wants_drop}
 
 -- Looking for the own stop: what is left decides, whatever the lengths and the counts are.
@@ -24,13 +23,6 @@ pub record Looking (m : ℕ) (starts aggregates numbers : List ℕ) (i : ℕ) : 
       → own_name m (drop i (want_stops starts l aggregates numbers cs)) ≡ own_name m (want_stops starts l aggregates numbers cs)
 
 module _ (m : ℕ) (starts aggregates numbers : List ℕ) where
-  pub looking_start : Looking m starts aggregates numbers 0
-  looking_start = record { within = omega arith; left = λ l cs e. ap (own_name m) (drop_none_here (want_stops starts l aggregates numbers cs)) }
-    where
-      drop_none_here : (ss : List Stop) → drop 0 ss ≡ ss
-      drop_none_here [] = refl
-      drop_none_here (s ∷ ss) = refl
-
   module _ (i : ℕ) (p : Looking m starts aggregates numbers i) where
     module _ (h : i < length numbers) where
       pub own_here : 0 < get_or numbers i 0 → m ≤ left_of starts aggregates (get_or numbers i 0)
@@ -109,6 +101,3 @@ module _ (bad : ℕ → Bool) (n found : ℕ) where
             none = first_more bad i p.none here;
             ahead = ⊎_elim (λ (z : found ≡ 0). inl z) (λ (h : i < found). inr (omega arith)) p.ahead;
           }
-
-    pub none_past : n ≤ i → found ≡ earlier_of found (first_where bad n)
-    none_past l = earlier_none found (first_where bad n) (sym (first_done bad i n p.none p.within l))

@@ -1,7 +1,7 @@
 -- The pricers' answers, as the code comes to them: the first refusal, or the walk's numbers. 01's pricer and that for a head anywhere go the same way.
 use Prim.Native.Nat.{ℕ, ◌≤◌}
-use mathlib.Core.Path.{◌≡◌, refl, sym, ◌∙◌}
-use mathlib.Core.Bool.{Bool, true, false, cond}
+use mathlib.Core.Path.{◌≡◌, refl, sym, ap, ◌∙◌}
+use mathlib.Core.Bool.{Bool, false, cond}
 use mathlib.Core.List.{List, [], ◌∷◌, ◌++◌}
 use lib.ListN.{length, drop}
 use borrow.Author.Tests.{ltb-false}
@@ -9,7 +9,8 @@ use Rattle.refusals.specs.declared.Refusal.TheVariants.{Accepted, ShortRow}
 use Rattle.refusals.specs.declared.Verdict.{Verdict}
 use Rattle.walk.specs.declared.Answer.{Answer}
 use Rattle.walk.specs.declared.Head.{Head}
-use Rattle.refusals.specs.Refusals.{is_refusal, accepted, refuse_if, first_of}
+use Rattle.std.specs.Prelude.{Result, Ok, Err}
+use Rattle.refusals.specs.Refusals.{is_refusal, accepted, checked, refuse_if, first_of}
 use Rattle.runs.specs.Run.{Run, want_stops_of, stops_of}
 use Rattle.runs.specs.Judging.{judge_of}
 use Rattle.runs.specs.Lists.{list_of, list_verdict}
@@ -20,7 +21,9 @@ use Rattle.walk.specs.AnyHead.{priced_any_answer, read_any_rows_with, price_any_
 use Rattle.walk.specs.Rows.{ReadRows, read_rows}
 use Rattle.walk.specs.Detours.{sweep_end}
 use Rattle.walk.specs.Private.{detour_legs, row_legs, Priceable}
-use Rattle.refusals.proofs.Verdicts.{refuses, first_refuses, first_passes, none_refuses, test_says, last_if, accepts_if}
+use Rattle.refusals.proofs.Verdicts.{refuses, none_refuses, all_accept, accepts_if}
+use Rattle.refusals.proofs.Checked.{passed, stopped}
+use Rattle.runs.proofs.Judged.{by_table, by_wants, by_head}
 use Rattle.runs.proofs.Entries.{length_list}
 use Rattle.runs.proofs.Search.{or_false_both}
 use Rattle.walk.proofs.Joins.{run_sum_joined}
@@ -45,58 +48,36 @@ Answers p a out =
     (a ≡ cond (is_refusal (verdict_of p).refusal) (refusal_answer (verdict_of p)) p.answer) × (out ≡ cond (is_refusal (verdict_of p).refusal) p.rows p.out)
 
 module _ (p : Parts) where
-  refused_so_here : (v : Verdict) → v ≡ verdict_of p → refuses v ≡ true → Answers p (refusal_answer v) p.rows
-  refused_so_here v e h = (rw (← e, h), rw (← e, h))
+  -- The three checks, each handed on by `?`.
+  pub run_stops : (e : Verdict) → Err e ≡ checked p.run → Err e ≡ checked (verdict_of p)
+  run_stops = by_table p.run p.list (rows_verdict p)
 
-  after_run : List Verdict
-  after_run = p.list ∷ rows_verdict p ∷ []
+  pub list_stops : (u : Unit) → Ok u ≡ checked p.run → (e : Verdict) → Err e ≡ checked p.list → Err e ≡ checked (verdict_of p)
+  list_stops u run = by_wants p.run p.list (rows_verdict p) u run
 
-  after_list : List Verdict
-  after_list = rows_verdict p ∷ []
+  pub rows_decide : (u : Unit) → Ok u ≡ checked p.run → (v : Unit) → Ok v ≡ checked p.list
+      → (x : Result Unit Verdict) (b : Bool) → x ≡ checked (refuse_if b ShortRow) → b ≡ short_read_rows p.wants p.rows → x ≡ checked (verdict_of p)
+  rows_decide u run v list x b said short = by_head p.run p.list (rows_verdict p) u run v list x (said ∙ ap (λ b. checked (refuse_if b ShortRow)) short)
 
-  module _ (v : Verdict) (f : Bool) (v-is : v ≡ p.run) (f-is : f ≡ is_refusal v.refusal) where
-    pub run_refused : f ≡ true → (a : Answer) → a ≡ refusal_answer v → Answers p a p.rows
-    unfolding after_run
-    run_refused e a is = rw is (refused_so_here v (v-is ∙ first_refuses p.run after_run (test_says v-is f-is e)) (sym f-is ∙ e))
+  -- What is known of each where none refuses; and the answer and the rows then, and where one does.
+  pub record Passed : Type 0 where
+    pub run : refuses p.run ≡ false
+    pub list : refuses p.list ≡ false
+    pub rows : (p.wants ≤ length p.rows.times) × (p.wants ≤ length p.rows.legs)
 
-    pub run_accepts : f ≡ false → refuses p.run ≡ false
-    run_accepts e = test_says v-is f-is e
+  pub all_passed : (u : Unit) → Ok u ≡ checked (verdict_of p) → Passed
+  all_passed u said =
+      let all = all_accept (p.run ∷ p.list ∷ rows_verdict p ∷ []) (passed (verdict_of p) u said) in
+      let long = or_false_both _ _ (accepts_if (short_read_rows p.wants p.rows) ShortRow refl all.1.1.0) in
+      record { run = all.0; list = all.1.0; rows = (ltb-false _ _ long.0, ltb-false _ _ long.1) }
 
-    passes_run : f ≡ false → verdict_of p ≡ first_of after_run
-    unfolding after_run
-    passes_run e = first_passes p.run after_run (test_says v-is f-is e)
+  pub answers_refusal : (e : Verdict) → Err e ≡ checked (verdict_of p) → (a : Answer) → a ≡ refusal_answer e → Answers p a p.rows
+  answers_refusal e said a is =
+      let s = stopped (verdict_of p) e said in
+      (rw (s.so, is) (ap refusal_answer (sym s.is)), rw s.so)
 
-    module _ (w : Verdict) (g : Bool) (w-is : w ≡ p.list) (g-is : g ≡ is_refusal w.refusal) where
-      pub list_refused_lem : f ≡ false → g ≡ true → (a : Answer) → a ≡ refusal_answer w → Answers p a p.rows
-      unfolding after_run after_list
-      list_refused_lem e d a is =
-          rw is (refused_so_here w (w-is ∙ first_refuses p.list after_list (test_says w-is g-is d) ∙ sym (passes_run e)) (sym g-is ∙ d))
-
-      pub list_accepts : g ≡ false → refuses p.list ≡ false
-      list_accepts d = test_says w-is g-is d
-
-      passes_list : f ≡ false → g ≡ false → verdict_of p ≡ first_of after_list
-      unfolding after_run after_list
-      passes_list e d = passes_run e ∙ first_passes p.list after_list (test_says w-is g-is d)
-
-      module _ (x : Verdict) (k : Bool) (x-is : x ≡ refuse_if (short_read_rows p.wants p.rows) ShortRow) (k-is : k ≡ is_refusal x.refusal) where
-        pub rows_refused_lem : f ≡ false → g ≡ false → k ≡ true → (a : Answer) → a ≡ refusal_answer x → Answers p a p.rows
-        unfolding after_list
-        rows_refused_lem e d c a is =
-            rw is (refused_so_here x (last_if {b = short_read_rows p.wants p.rows} ShortRow refl x-is refl ∙ sym (passes_list e d)) (sym k-is ∙ c))
-
-        -- Neither row is short.
-        pub rows_long : k ≡ false → (p.wants ≤ length p.rows.times) × (p.wants ≤ length p.rows.legs)
-        rows_long c =
-            let n = or_false_both _ _ (accepts_if (short_read_rows p.wants p.rows) ShortRow refl (test_says x-is k-is c)) in
-            (ltb-false _ _ n.0, ltb-false _ _ n.1)
-
-        accepts : f ≡ false → g ≡ false → k ≡ false → refuses (verdict_of p) ≡ false
-        unfolding after_list
-        accepts e d c = rw (passes_list e d, ← (last_if {b = short_read_rows p.wants p.rows} ShortRow refl x-is refl)) (sym k-is ∙ c)
-
-        pub all_accepted : f ≡ false → g ≡ false → k ≡ false → (a : Answer) (out : ReadRows) → a ≡ p.answer → out ≡ p.out → Answers p a out
-        all_accepted e d c a out a-is out-is = (rw (accepts e d c) a-is, rw (accepts e d c) out-is)
+  pub answers_price : (u : Unit) → Ok u ≡ checked (verdict_of p) → (a : Answer) (out : ReadRows) → a ≡ p.answer → out ≡ p.out → Answers p a out
+  answers_price u said a out a-is out-is = let h = passed (verdict_of p) u said in (rw h a-is, rw h out-is)
 
 -- 01's pricer.
 module _ (r : Run) (froms tos : List ℕ) (rows : ReadRows) where
@@ -111,9 +92,32 @@ module _ (r : Run) (froms tos : List ℕ) (rows : ReadRows) where
         out = read_rows_with r (list_of froms tos) rows;
       }
 
-  pub price_answers : (a : Answer) (out : ReadRows) → Answers priceParts a out → (a ≡ price_answer r froms tos rows) × (out ≡ price_rows r froms tos rows)
+  -- Its checks, each handed on by `?`; what is known where none refuses; and what is answered then, and where one does.
+  pub price_run_stops : (e : Verdict) → Err e ≡ checked (judge_of r) → Err e ≡ checked (price_verdict r froms tos rows)
+  unfolding price_verdict
+  price_run_stops = run_stops priceParts
+
+  pub price_list_stops : (u : Unit) → Ok u ≡ checked (judge_of r) → (e : Verdict) → Err e ≡ checked (list_verdict (stops_of r) froms tos) → Err e ≡ checked (price_verdict r froms tos rows)
+  unfolding price_verdict
+  price_list_stops = list_stops priceParts
+
+  pub price_rows_decide : (u : Unit) → Ok u ≡ checked (judge_of r) → (v : Unit) → Ok v ≡ checked (list_verdict (stops_of r) froms tos)
+      → (x : Result Unit Verdict) (b : Bool) → x ≡ checked (refuse_if b ShortRow) → b ≡ short_read_rows (length r.numbers) rows → x ≡ checked (price_verdict r froms tos rows)
+  unfolding price_verdict
+  price_rows_decide = rows_decide priceParts
+
+  pub price_passed : (u : Unit) → Ok u ≡ checked (price_verdict r froms tos rows) → Passed priceParts
+  unfolding price_verdict
+  price_passed = all_passed priceParts
+
+  pub price_refusal : (e : Verdict) → Err e ≡ checked (price_verdict r froms tos rows) → (a : Answer) → a ≡ refusal_answer e → (a ≡ price_answer r froms tos rows) × (rows ≡ price_rows r froms tos rows)
   unfolding price_answer price_rows price_verdict
-  price_answers a out h = h
+  price_refusal = answers_refusal priceParts
+
+  pub price_numbers : (u : Unit) → Ok u ≡ checked (price_verdict r froms tos rows) → (a : Answer) (out : ReadRows) → a ≡ priceParts.answer → out ≡ priceParts.out
+      → (a ≡ price_answer r froms tos rows) × (out ≡ price_rows r froms tos rows)
+  unfolding price_answer price_rows price_verdict
+  price_numbers = answers_price priceParts
 
   pub price_accepted : refuses (price_verdict r froms tos rows) ≡ false → price_verdict r froms tos rows ≡ accepted
   unfolding price_verdict
@@ -131,9 +135,32 @@ module _ (r : Run) (froms tos : List ℕ) (rows : ReadRows) where
         out = read_any_rows_with r (list_of froms tos) rows;
       }
 
-  pub price_any_answers : (a : Answer) (out : ReadRows) → Answers anyParts a out → (a ≡ price_any_answer r froms tos rows) × (out ≡ price_any_rows r froms tos rows)
+  -- Its checks, each handed on by `?`; what is known where none refuses; and what is answered then, and where one does.
+  pub price_any_run_stops : (e : Verdict) → Err e ≡ checked (judge_any_of r) → Err e ≡ checked (price_any_verdict r froms tos rows)
+  unfolding price_any_verdict
+  price_any_run_stops = run_stops anyParts
+
+  pub price_any_list_stops : (u : Unit) → Ok u ≡ checked (judge_any_of r) → (e : Verdict) → Err e ≡ checked (list_verdict_any r.head (stops_of r) froms tos) → Err e ≡ checked (price_any_verdict r froms tos rows)
+  unfolding price_any_verdict
+  price_any_list_stops = list_stops anyParts
+
+  pub price_any_rows_decide : (u : Unit) → Ok u ≡ checked (judge_any_of r) → (v : Unit) → Ok v ≡ checked (list_verdict_any r.head (stops_of r) froms tos)
+      → (x : Result Unit Verdict) (b : Bool) → x ≡ checked (refuse_if b ShortRow) → b ≡ short_read_rows (length r.numbers) rows → x ≡ checked (price_any_verdict r froms tos rows)
+  unfolding price_any_verdict
+  price_any_rows_decide = rows_decide anyParts
+
+  pub price_any_passed : (u : Unit) → Ok u ≡ checked (price_any_verdict r froms tos rows) → Passed anyParts
+  unfolding price_any_verdict
+  price_any_passed = all_passed anyParts
+
+  pub price_any_refusal : (e : Verdict) → Err e ≡ checked (price_any_verdict r froms tos rows) → (a : Answer) → a ≡ refusal_answer e → (a ≡ price_any_answer r froms tos rows) × (rows ≡ price_any_rows r froms tos rows)
   unfolding price_any_answer price_any_rows price_any_verdict
-  price_any_answers a out h = h
+  price_any_refusal = answers_refusal anyParts
+
+  pub price_any_numbers : (u : Unit) → Ok u ≡ checked (price_any_verdict r froms tos rows) → (a : Answer) (out : ReadRows) → a ≡ anyParts.answer → out ≡ anyParts.out
+      → (a ≡ price_any_answer r froms tos rows) × (out ≡ price_any_rows r froms tos rows)
+  unfolding price_any_answer price_any_rows price_any_verdict
+  price_any_numbers = answers_price anyParts
 
   pub price_any_accepted : refuses (price_any_verdict r froms tos rows) ≡ false → price_any_verdict r froms tos rows ≡ accepted
   unfolding price_any_verdict

@@ -5,14 +5,13 @@ use mathlib.Core.Path.{◌≡◌, refl, sym, ap, ◌∙◌}
 use mathlib.Core.Bool.{Bool, true, false, cond}
 use mathlib.Core.List.{List, [], ◌∷◌, ◌++◌, map}
 use native.Mathlib.Omega.{arith}
-use lib.Dec.{T, eqb}
-use borrow.Author.Tests.{le-leb}
+use lib.Dec.{eqb}
 use Rattle.walk.specs.declared.Head.{Head}
 use Rattle.walk.specs.declared.Leg.{Leg}
 use Rattle.runs.specs.Run.{Stop}
 use Rattle.runs.specs.Lists.{Detour}
 use Rattle.runs.specs.AnyHead.{smaller, pulled_stop, pulled}
-use Rattle.walk.specs.Walk.{after_leg, reads, served, ServesAll, time_of, leg_from, leg_for, times_of, legs_for, sum_of}
+use Rattle.walk.specs.Walk.{after_leg, reads, served, ServesAll, time_of, leg_from, sum_of}
 use Rattle.walk.specs.Detours.{start_of, end_of, leg_of, unread_end, sweep_end, last_sweep, legs_of}
 use Rattle.runs.proofs.AnyHead.{smaller_is, below_smaller}
 

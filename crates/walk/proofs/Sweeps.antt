@@ -1,12 +1,13 @@
 -- Where the last sweep ends: at the end of one of the stops. Looked for from the right, it is the first that no detour has read.
-use Prim.Native.Nat.{ℕ, zero, suc, ◌+◌, ◌-◌, ◌≤◌, ◌<◌}
+use Prim.Native.Nat.{ℕ, zero, suc, ◌-◌, ◌<◌}
 use mathlib.Core.Path.{◌≡◌, refl, ap, sym, ◌∙◌}
 use mathlib.Core.Bool.{true, false}
 use mathlib.Core.Logic.{◌⊎◌, inl, inr, ⊎_elim}
 use mathlib.Core.List.{List, [], ◌∷◌}
 use native.Mathlib.Omega.{arith}
-use native.Mathlib.Nat.{eq-or-lt_of_le}
 use lib.ListN.{length, get_or}
+use Rattle.std.proofs.Common.{reverse}
+use Rattle.std.proofs.lemmas.List.{length-reverse, get_or-reverse, get_or_default}
 use Rattle.walk.specs.declared.Leg.{Leg}
 use Rattle.runs.specs.Run.{Stop, first_file, stop_of, want_stops}
 use Rattle.runs.specs.Rows.{stop_at}
@@ -100,20 +101,15 @@ pub record ReadRight (aggregates numbers froms tos : List ℕ) (i : ℕ) : Type 
   pub within : i < length numbers
   pub read : (j : ℕ) → i < j → j < length numbers → read_by_number froms tos (first_file aggregates (get_or numbers j 0)) ≡ true
 
-pub read_none : (aggregates ns froms tos : List ℕ) (i : ℕ) → i + 1 ≡ length ns → ReadRight aggregates ns froms tos i
-read_none aggregates ns froms tos i e = record { within = omega arith; read = λ j a b. absurd (omega arith) }
+-- What its turn k reads of the numbers behind the first, from the right.
+pub from_right : (numbers : List ℕ) (first : ℕ) (later : List ℕ) → numbers ≡ first ∷ later → (k n : ℕ) → k < length (reverse later) → n ≡ get_or (reverse later) k n
+    → (0 < length numbers - 1 - k) × (n ≡ get_or numbers (length numbers - 1 - k) 0)
+from_right numbers first later is k n l at =
+    let within : k < length later = omega (arith, length-reverse later) in
+    let index : suc (length later) - 1 - k ≡ suc (length later - 1 - k) = omega arith in
+    rw (is, index) (omega arith, at ∙ get_or-reverse later k n within ∙ get_or_default later (length later - 1 - k) n 0 (omega arith))
 
 module _ (aggregates ns froms tos : List ℕ) (i : ℕ) (p : ReadRight aggregates ns froms tos i) where
-  pub read_one_more : read_by_number froms tos (first_file aggregates (get_or ns i 0)) ≡ true → ReadRight aggregates ns froms tos (i - 1)
-  read_one_more t =
-      record {
-        within = omega (arith, p.within);
-        read = λ j a b. ⊎_elim (λ q. rw (← q) t) (λ far. p.read j far b) (eq-or-lt_of_le (at_least j a));
-      }
-    where
-      at_least : (j : ℕ) → i - 1 < j → i ≤ j
-      at_least j a = omega arith
-
   -- Where these numbers say which wants the legs have read.
   module _ (gs : List Leg) (starts lengths cs : List ℕ) (same : length cs ≡ length ns)
       (by : (j : ℕ) → j < length ns → served gs (stop_of starts lengths aggregates (get_or ns j 0) 0) ≡ read_by_number froms tos (first_file aggregates (get_or ns j 0))) where

@@ -10,9 +10,10 @@ mod any_head;
 mod pricing;
 
 pub use any_head::price_any;
-pub use pricing::{price, refuse};
+pub use pricing::{price, refuse, short_rows};
 
 // The one answer record: on a refusal every number but the place is 0.
+// Stays: the scope asks for one answer record, with the kind of refusal beside place, sum, finish and end, so that the answer is no Result.
 #[derive(Clone, Copy)]
 pub struct Answer {
     pub refusal: refusals::Refusal,
@@ -23,6 +24,7 @@ pub struct Answer {
     pub detours: u64,
 }
 
+// Stays: the way is a part of the head's state, which each step takes and hands back, as the scope asks; a closure for a way would not be told.
 #[derive(Clone, Copy)]
 pub enum Way {
     Leftward,

@@ -7,14 +7,15 @@ ghost use Rattle.runs.specs.Rows.{run_in, run_at};
 ghost use Rattle.runs.specs.Lists.{list_of};
 ghost use Rattle.walk.specs.Walk.{head_at, walked, times_of, legs_for, sum_of};
 ghost use Rattle.walk.specs.Detours.{sweep_end};
-ghost use Rattle.walk.specs.Price.{refusal_answer, price_answer, price_rows};
+ghost use Rattle.refusals.specs.Refusals.{checked};
+ghost use Rattle.walk.specs.Price.{refusal_answer, price_verdict, price_answer, price_rows};
 ghost use Rattle.walk.specs.AnyHead.{priced_any_answer, read_any_rows_with};
-ghost use Rattle.walk.specs.Rows.{read_rows_before, read_rows_after};
+ghost use Rattle.walk.specs.Rows.{read_rows, read_rows_before, read_rows_after};
 ghost use Rattle.runs.specs.Private.{InTable, want_stops_at};
 ghost use Rattle.walk.specs.Private.{Tabled, RowsFit, WalkFits, Priceable, Behind, read_by_number, left_of, leg_start, right_of, row_legs, legs_in, legs_at, detours_at, leg_at, read_of};
 
 use crate::{Answer, Head, Leg, Read};
-use refusals::{Refusal, Verdict, refuse_if, refused};
+use refusals::{Refusal, Verdict};
 use runs::{first_member, judge, judge_list, last_member, smaller};
 
 // Where a file's aggregate starts, at its first member, and where it ends, at its last.
@@ -42,7 +43,7 @@ fn leg_count(numbers: &[u64], froms: &[u64]) -> usize
     requires { length froms.now ≤ length numbers.now }
     ensures { (m : ℕ) (s l a tos : List ℕ) (reach : ℕ) → length froms.now ≡ length tos → result ≡ length (row_legs m s l a numbers.now froms.now tos reach) }
 {
-    if numbers.len() == 0 {
+    if numbers.is_empty() {
         return 0;
     }
     froms.len() + 1
@@ -73,10 +74,7 @@ fn detour_leg(
 fn lie_between(left: u64, right: u64, start: u64, end: u64) -> bool
     ensures { result ≡ (leb left start && leb end right) }
 {
-    if left <= start {
-        return end <= right;
-    }
-    false
+    left <= start && end <= right
 }
 
 // Whether a leg's rightward run starts at or left of a file's start and ends at or right of its end.
@@ -94,14 +92,10 @@ fn detour_reads(aggregates: &[u64], froms: &[u64], tos: &[u64], file: u64) -> bo
 {
     let at = (file - 1) as usize;
     let first = first_member(aggregates, at) as u64 + 1;
-    let mut i: usize = 0;
-    while i < froms.len() {
-        if lie_between(froms[i], tos[i], first, first) {
-            return true;
-        }
-        i += 1;
-    }
-    false
+    froms
+        .iter()
+        .zip(tos)
+        .any(|(from, to)| lie_between(*from, *to, first, first))
 }
 
 // Where the last sweep ends: at the end of the rightmost wanted aggregate that no detour reads, looked for from the right.
@@ -116,18 +110,15 @@ fn sweep_end(
     requires { RowsFit starts.now lengths.now aggregates.now numbers.now froms.now tos.now }
     ensures { (m : ℕ) (cs : List ℕ) → length cs ≡ length numbers.now → Behind m starts.now aggregates.now numbers.now froms.now → result ≡ sweep_end (detours_at m starts lengths aggregates froms tos) (want_stops starts.now lengths.now aggregates.now numbers.now cs) }
 {
-    if numbers.len() == 0 {
+    let Some((first, later)) = numbers.split_first() else {
         return 0;
-    }
-    let mut i: usize = numbers.len() - 1;
-    while 0 < i {
-        let file = numbers[i];
-        if !detour_reads(aggregates, froms, tos, file) {
-            return extent_end(starts, lengths, aggregates, file);
+    };
+    for file in later.iter().rev() {
+        if !detour_reads(aggregates, froms, tos, *file) {
+            return extent_end(starts, lengths, aggregates, *file);
         }
-        i -= 1;
     }
-    extent_end(starts, lengths, aggregates, numbers[0])
+    extent_end(starts, lengths, aggregates, *first)
 }
 
 // The last sweep: from the start of the leftmost wanted aggregate to its end.
@@ -183,22 +174,18 @@ fn read_of(
     let start = extent_start(starts, aggregates, file);
     let end = extent_end(starts, lengths, aggregates, file);
     let mut h = Head::at(head);
-    let mut i: usize = 0;
-    while i < many {
+    for i in 0..many {
         let leg = leg_at(
             starts, lengths, aggregates, numbers, froms, tos, reach, head, i,
         );
-        let right = leg.right;
         let out = h.set_off(turn, leg);
         if reads_file(leg, start, end) {
-            let there = out.run_right(end);
             return Read {
-                time: there.clock,
-                leg: (i + 1) as u64,
+                time: out.run_right(end).clock,
+                leg: i as u64 + 1,
             };
         }
-        h = out.run_right(right);
-        i += 1;
+        h = out.run_right(leg.right);
     }
     Read { time: 0, leg: 0 }
 }
@@ -220,14 +207,11 @@ fn walk_end(
     ensures { result ≡ walked turn (head_at head) (legs_at head starts lengths aggregates numbers froms tos reach) }
 {
     let mut h = Head::at(head);
-    let mut i: usize = 0;
-    while i < many {
+    for i in 0..many {
         let leg = leg_at(
             starts, lengths, aggregates, numbers, froms, tos, reach, head, i,
         );
-        let right = leg.right;
-        h = h.set_off(turn, leg).run_right(right);
-        i += 1;
+        h = h.set_off(turn, leg).run_right(leg.right);
     }
     h
 }
@@ -255,16 +239,14 @@ fn fill_reads(
     ensures times_after { times.new ≡ times_of turn (head_at head) (legs_at head starts lengths aggregates numbers froms tos reach) (want_stops_at starts lengths aggregates numbers counts) ++ drop (length numbers.now) times.old }
     ensures legs_after { legs.new ≡ legs_for (legs_at head starts lengths aggregates numbers froms tos reach) (want_stops_at starts lengths aggregates numbers counts) ++ drop (length numbers.now) legs.old }
 {
-    let mut sum: u64 = 0;
-    let mut i: usize = 0;
-    while i < numbers.len() {
+    let mut sum = 0;
+    for (i, file) in numbers.iter().enumerate() {
         let read = read_of(
-            starts, lengths, aggregates, numbers, froms, tos, reach, head, turn, numbers[i], many,
+            starts, lengths, aggregates, numbers, froms, tos, reach, head, turn, *file, many,
         );
         times[i] = read.time;
         legs[i] = read.leg;
         sum += counts[i] * read.time;
-        i += 1;
     }
     sum
 }
@@ -287,18 +269,14 @@ fn answer_at(kind: Refusal, place: u64) -> Answer
 pub fn refuse(v: Verdict) -> Answer
     ensures { result ≡ refusal_answer v }
 {
-    let kind = v.refusal;
-    answer_at(kind, v.place)
+    answer_at(v.refusal, v.place)
 }
 
 // Whether a row for times or for legs has no entry for each want.
-pub(crate) fn short_rows(wants: usize, times: usize, legs: usize) -> bool
+pub fn short_rows(wants: usize, times: usize, legs: usize) -> bool
     ensures { result ≡ (ltb times wants || ltb legs wants) }
 {
-    if times < wants {
-        return true;
-    }
-    legs < wants
+    times < wants || legs < wants
 }
 
 // The walk of a judged list: its times and legs into the rows, its numbers into the answer.
@@ -339,7 +317,29 @@ pub(crate) fn priced(
     }
 }
 
+// 1 to 7, 10 and 8: of a run, a list, and the rows lent for times and legs.
+fn judge_price(
+    starts: &[u64],
+    lengths: &[u64],
+    aggregates: &[u64],
+    numbers: &[u64],
+    counts: &[u64],
+    head: u64,
+    turn: u64,
+    froms: &[u64],
+    tos: &[u64],
+    times: &[u64],
+    legs: &[u64],
+) -> Result<(), Verdict>
+    ensures { result ≡ checked (price_verdict (run_at starts lengths aggregates numbers counts head turn) froms.now tos.now (read_rows times.now legs.now)) }
+{
+    judge(starts, lengths, aggregates, numbers, counts, head, turn)?;
+    judge_list(aggregates, numbers, froms, tos)?;
+    Refusal::ShortRow.when(short_rows(numbers.len(), times.len(), legs.len()))
+}
+
 // The price of a detour list for a run. All is judged before the first write.
+// Stays: beside price_any, which judges otherwise; one over the judging that is passed in names its eleven parameters in a bound and in a clause.
 pub fn price(
     starts: &[u64],
     lengths: &[u64],
@@ -356,20 +356,11 @@ pub fn price(
     ensures value { result ≡ price_answer (run_at starts lengths aggregates numbers counts head turn) froms.now tos.now (read_rows_before times legs) }
     ensures legs_value { read_rows_after times legs ≡ price_rows (run_at starts lengths aggregates numbers counts head turn) froms.now tos.now (read_rows_before times legs) }
 {
-    let run = judge(starts, lengths, aggregates, numbers, counts, head, turn);
-    if refused(run) {
-        return refuse(run);
-    }
-    let list = judge_list(aggregates, numbers, froms, tos);
-    if refused(list) {
-        return refuse(list);
-    }
-    let rows = refuse_if(
-        short_rows(numbers.len(), times.len(), legs.len()),
-        Refusal::ShortRow,
+    let judged = judge_price(
+        starts, lengths, aggregates, numbers, counts, head, turn, froms, tos, times, legs,
     );
-    if refused(rows) {
-        return refuse(rows);
+    if let Err(refusal) = judged {
+        return refuse(refusal);
     }
     priced(
         starts, lengths, aggregates, numbers, counts, head, turn, froms, tos, times, legs,

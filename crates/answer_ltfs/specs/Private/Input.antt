@@ -1,5 +1,5 @@
 -- What the functions that take an input apart find, and the page that its sheet is put on. No public contract cites this file.
-use Rattle.std.specs.Prelude.{ℕ, ◌-◌, ◌≤◌, ◌≡◌, true, false, List, length, take, drop}
+use Rattle.std.specs.Prelude.{ℕ, ◌-◌, ◌≤◌, ◌≡◌, true, false, List, length, take, drop, Option, Some, None}
 use Rattle.sheet_writer.specs.Writing.{written_row}
 use Rattle.answer_ltfs.specs.declared.Report.{Report}
 use Rattle.answer_ltfs.specs.declared.input.Counted.{Counted}
@@ -15,9 +15,9 @@ pub record CountedAt (key input : List ℕ) (at from to : ℕ) : Type 0 where
   pub text : take (to - from) (drop from input) ≡ counted_text key (drop at input)
   pub rest : drop to input ≡ after_counted key (drop at input)
 
-abbrev pub CountedFound : List ℕ → List ℕ → ℕ → Counted → Type 0
-CountedFound key input at (Counted.Text from to) = CountedAt key input at from to
-CountedFound key input at Counted.Missing = is_counted key (drop at input) ≡ false
+abbrev pub CountedFound : List ℕ → List ℕ → ℕ → Option Counted → Type 0
+CountedFound key input at (Some text) = CountedAt key input at text.from text.to
+CountedFound key input at None = is_counted key (drop at input) ≡ false
 
 -- The label from one position to another, the index from one to the end.
 pub record TextsAt (input : List ℕ) (at from to index : ℕ) : Type 0 where
@@ -28,9 +28,9 @@ pub record TextsAt (input : List ℕ) (at from to index : ℕ) : Type 0 where
   pub label : take (to - from) (drop from input) ≡ framed_label (drop at input)
   pub last : drop index input ≡ framed_index (drop at input)
 
-abbrev pub TextsFound : List ℕ → ℕ → Texts → Type 0
-TextsFound input at (Texts.Both from to index) = TextsAt input at from to index
-TextsFound input at Texts.Missing = bad_frame input (drop at input) ≡ true
+abbrev pub TextsFound : List ℕ → ℕ → Option Texts → Type 0
+TextsFound input at (Some texts) = TextsAt input at texts.from texts.to texts.index
+TextsFound input at None = bad_frame input (drop at input) ≡ true
 
 -- The sheet of an input on a page that holds every sheet, and what is said of it.
 abbrev pub input_report : List ℕ → Report

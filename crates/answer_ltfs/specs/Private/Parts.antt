@@ -1,5 +1,5 @@
 -- What the functions that read files find, by cases of their answers. No public contract cites this file.
-use Rattle.std.specs.Prelude.{ℕ, suc, zero, ◌+◌, ◌≤◌, ◌<◌, ◌≡◌, Bool, true, false, cond, ◌&&◌, List, [], ◌∷◌, ◌++◌, length}
+use Rattle.std.specs.Prelude.{ℕ, suc, zero, ◌+◌, ◌≤◌, ◌<◌, ◌≡◌, Bool, true, false, cond, ◌&&◌, List, [], ◌∷◌, ◌++◌, length, Option, Some, None}
 use Rattle.tape_ranges.specs.declared.File.{File}
 use Rattle.tape_files.specs.declared.ExtentSaid.{ExtentSaid}
 use Rattle.answer_ltfs.specs.declared.index.Walk.{Walk}
@@ -69,6 +69,6 @@ pub record FileMet (text : List ℕ) (walk : Walk) (f : File) (next : Walk) : Ty
   pub within : WalkIn text next
   pub fewer : length (tokens_at text next.place) < length (tokens_at text walk.place)
 
-abbrev pub NextFound : List ℕ → Walk → NextFile → Type 0
-NextFound text walk (NextFile.Found f next) = FileMet text walk f next
-NextFound text walk NextFile.Done = files_left text walk ≡ []
+abbrev pub NextFound : List ℕ → Walk → Option NextFile → Type 0
+NextFound text walk (Some next) = FileMet text walk next.file next.walk
+NextFound text walk None = files_left text walk ≡ []

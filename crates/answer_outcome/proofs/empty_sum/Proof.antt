@@ -5,9 +5,6 @@ use Rattle.answer_outcome.proofs.Plans.{empty_price_lem}
 use borrow.Author.Rules.{rules}
 use Rattle.answer_outcome.proofs.empty_sum.Statement.{statement}
 use Rattle.answer_outcome.proofs.empty_sum.Tie as tie
-use Rattle.answer_outcome.proofs.empty_sum.Reads as reads
-use Rattle.answer_outcome.proofs.empty_sum.Lts as lts
-use Rattle.walk.proofs.price.Reads as price-reads
 
 -- src/lib.rt:109:9
 slice-aggregate-price : tie.Need-slice_bounds-price-end

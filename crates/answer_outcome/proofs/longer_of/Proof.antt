@@ -1,6 +1,5 @@
 -- `answer_outcome::longer_of` meets its contract.
 -- Assumes nothing.
-use mathlib.Core.Path.{refl}
 use borrow.Author.Tests.{lt-ltb, le-ltb}
 use Rattle.answer_outcome.proofs.longer_of.Statement.{statement}
 use Rattle.answer_outcome.proofs.longer_of.Tie as tie

@@ -1,13 +1,9 @@
 -- `answer_outcome::timed_plan` meets its contract: what the planner leaves in rows that suffice.
 -- Assumes nothing.
 use borrow.Author.Rules.{rules}
-use Rattle.answer_plan.proofs.Planned.{Lent}
 use Rattle.answer_outcome.proofs.Plans.{timed_plan_lem}
 use Rattle.answer_outcome.proofs.timed_plan.Statement.{statement}
 use Rattle.answer_outcome.proofs.timed_plan.Tie as tie
-use Rattle.answer_outcome.proofs.timed_plan.Reads as reads
-use Rattle.answer_outcome.proofs.timed_plan.Lts as lts
-use Rattle.planner.proofs.plan.Reads as plan-reads
 
 -- src/lib.rt:142:9
 slice-aggregate-plan : tie.Need-slice_bounds-plan-end

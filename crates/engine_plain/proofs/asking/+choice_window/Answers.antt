@@ -4,7 +4,7 @@ use native.Mathlib.Omega.{arith}
 use native.Mathlib.Nat.{le_of_lt}
 use Rattle.runs.specs.Run.{last_place, highest_turn, most_reads}
 use Rattle.engine_plain.proofs.Sizes.{asked_early}
-use Rattle.engine_plain.proofs.Windows.{some_stop, reads_fit, skipped_few, asked_inner, asked_rest, asked_from, two_fit, skip_so, skip_fits, detour_part_fits, detour_so, detour_fits, no_window, window_starts, window_turn, window_ends}
+use Rattle.engine_plain.proofs.Windows.{some_stop, reads_fit, skipped_few, asked_inner, asked_rest, asked_from, two_fit, skip_so, skip_fits, detour_part_fits, detour_so, detour_fits, no_window, lower_min, window_starts, window_turn, window_ends}
 use Rattle.engine_plain.proofs.asking.+choice_window.Goals as goal
 
 -- Each call leaves less to decide.
@@ -86,7 +86,11 @@ pub window-loop-c-init : goal.window-loop-c-init
 window-loop-c-init t c = window_starts _ _ _ _ _ _ _ c.if-b-a.false _ c.choice-least.ensures
 
 pub window-loop-c-preserved : goal.window-loop-c-preserved
-window-loop-c-preserved t c = window_turn _ _ _ _ _ _ _ _ _ c.loop-c.invariant c.loop-c-test.true _ _ c.choice.ensures c.lower_of-least.ensures
+window-loop-c-preserved t c = window_turn _ _ _ _ _ _ _ _ _ c.loop-c.invariant (omega arith) _ _ c.choice.ensures (lower_min _ _ _ c.min-least.ensures)
 
-pub window-returns : goal.window-returns
-window-returns t c = window_ends _ _ _ _ _ _ _ _ _ c.loop-c.invariant c.loop-c-test.false
+pub window-returns-else-b-a : goal.window-returns-else-b-a
+window-returns-else-b-a t c = window_ends _ _ _ _ _ _ _ _ _ c.loop-c.invariant (omega arith)
+
+pub window-returns-else-b-a-2 : goal.window-returns-else-b-a-2
+window-returns-else-b-a-2 t c =
+    window_ends _ _ _ _ _ _ _ _ _ (window_turn _ _ _ _ _ _ _ _ _ c.loop-c.invariant (omega arith) _ _ c.choice.ensures (lower_min _ _ _ c.min-least.ensures)) (omega arith)

@@ -11,6 +11,3 @@ decreases-window l = 2 * (l.b - l.a) + 1
 
 abbrev pub invariant-window-loop-c : goal.invariant-window-loop-c
 invariant-window-loop-c l = WindowLoop l.lefts l.spans l.reads l.turn l.a l.b l.s l.least l.c
-
-abbrev pub decreases-window-loop-c : goal.decreases-window-loop-c
-decreases-window-loop-c l = l.c

@@ -1,0 +1,9 @@
+use mathlib.Core.Path.{◌∙◌}
+use Rattle.tape_spans.proofs.Places.{start_bytes, start_blocks}
+use Rattle.tape_spans.proofs.place_start.Goals as goal
+
+pub returns-then-unit-eq0 : goal.returns-then-unit-eq0
+returns-then-unit-eq0 c = let a = c.args in c.byte_start.ensures ∙ start_bytes a.unit a.size a.extent c.if-unit-eq0.true
+
+pub returns : goal.returns
+returns c = let a = c.args in c.block_start.ensures ∙ start_blocks a.unit a.size a.extent c.if-unit-eq0.false
