@@ -282,8 +282,8 @@ server_installed() {
 # C, C++, Rust and Python against the shared library, by the name that it goes by.
 shared_installed() {
     readelf -d "$prefix/lib/libviolstream.so" | grep -q 'SONAME.*\[libviolstream\.so\.[0-9]*\]' || fail "libviolstream.so has no soname"
-    # Nothing is allocated, and nothing else is asked of the system: the C library copies, fills, moves and compares.
-    needed=$(nm -D --undefined-only "$prefix/lib/libviolstream.so" | sed -n 's/^ *U //p' | sed 's/@.*//' | grep -vx -e memcpy -e memset -e memmove -e memcmp)
+    # Nothing is allocated, and nothing else is asked of the system: the C library copies and fills.
+    needed=$(nm -D --undefined-only "$prefix/lib/libviolstream.so" | sed -n 's/^ *U //p' | sed 's/@.*//' | grep -vx -e memcpy -e memset)
     [ -z "$needed" ] || fail "libviolstream.so needs $needed"
     nm -D --defined-only "$prefix/lib/libviolstream.so" | sed -n 's/.* T //p' | sort > "$out/calls.is"
     sed -n 's/^uint64_t \(violstream_[a-z_]*\)(.*/\1/p' "$here/include/violstream.h" | sort > "$out/calls.must"
@@ -357,6 +357,13 @@ command_sources() {
     (cd "$made/crate" && step "clippy" cargo clippy -q --release --target-dir "$made/target" -- -D warnings) || exit 1
     (cd "$made/crate" && step "clippy, with the library" cargo clippy -q --release --features library --target-dir "$made/target" -- -D warnings) || exit 1
     (cd "$made/crate" && step "the command's own tests" cargo test -q --release --target-dir "$made/target" > "$out/cargo.log") || exit 1
+    # Where target is a link to a folder elsewhere, and a name has a quotation mark in it, cargo finds the sources too.
+    linked=$out/'a "checkout"' && mkdir -p "$linked" "$out/elsewhere" && cp -r "$here/command" "$here/tools" "$linked" && ln -sfn "$out/elsewhere" "$linked/target" || exit 1
+    # shellcheck disable=SC2016  # words of the other shell
+    step "the sources where target is a link" sh -c 'here=$1 made=$1/target/command/made registry=/usr/share/cargo/registry; . "$1/tools/compile.sh"; lay_out && cd "$made/crate" && cargo read-manifest' \
+        sh "$linked" > "$out/manifest" || exit 1
+    step "where target is a link cargo takes the command's sources from elsewhere" python3 -c 'import json, os, sys; sys.exit(not os.path.samefile(json.load(sys.stdin)["targets"][0]["src_path"], sys.argv[1]))' \
+        "$linked/command/src/main.rs" < "$out/manifest" || exit 1
     printf 'command_sources: one file with unsafe, in the layout of rustfmt, nothing found by clippy, its own tests passed\n'
 }
 
@@ -439,7 +446,7 @@ of_the_crates() {
     run python/figures
     run python/desk
     run python/desk_rows
-    run python/pricer_rows
+    run python/pricer_rows --library "$archive"
     run python/reading
     run python/edits
     run python/pages

@@ -3,10 +3,11 @@
 # made, failed, archive, registry, cargo, ending).
 
 # A folder of the command's own for cargo, so that nothing is written beside the sources; its lock file takes the registry's checksums there. The manifest says
-# where the sources are: rt ci refuses links anywhere in a checkout.
+# where the sources are, by the whole path, since target may lie on another disk: rt ci refuses links to them anywhere in a checkout.
 lay_out() {
     mkdir -p "$here/target/command" && { [ -d "$made" ] || mkdir -m 700 "$made"; } && mkdir -p "$made/crate/.cargo" || return 1
-    { cat "$here/command/Cargo.toml" && printf '\n[[bin]]\nname = "violstream"\npath = "../../../../command/src/main.rs"\n'; } > "$made/crate/Cargo.toml.$$" || return 1
+    quoted=$(printf '%s\n' "$here/command/src/main.rs" | sed 's/[\\"]/\\&/g') || return 1
+    { cat "$here/command/Cargo.toml" && printf '\n[[bin]]\nname = "violstream"\npath = "%s"\n' "$quoted"; } > "$made/crate/Cargo.toml.$$" || return 1
     mv -f "$made/crate/Cargo.toml.$$" "$made/crate/Cargo.toml" && rm -f "$made/crate/src" "$made/crate/help" "$made/crate/systemd" || return 1
     if [ -d "$registry/clap-4.0.32" ]; then
         printf '[net]\noffline = true\n[source.crates-io]\nreplace-with = "debian"\n[source.debian]\ndirectory = "%s"\n' "$registry"

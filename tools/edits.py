@@ -1,8 +1,8 @@
 #!/usr/bin/env python3
 """Has the prover try wrong programs and wrong statements, and keeps all that it says of them: rt says no more of an edit than that it is refused, and why first.
 
-    tools/edits.py [--several] [NAME..]      those of crates/NAME/must-fail; without a name of all crates. --several: the files that hold several, which
-                                             tests/python/edits.py takes apart; a file of one is told by rt itself
+    tools/edits.py [--several] [NAME..]      those of crates/NAME/must-fail; without a name of all crates. --several: the files with lines `wrong: NAME`, of several
+                                             or of one, which tests/python/edits.py takes apart; the others are told by rt itself
 
 A file of edits costs a check of its whole crate. It is tried on a copy of the crate's src/, specs/ and proofs/, over the libraries that stand in crates/*/out (of
 `rt ci`, or of `rt check`; else `rt lib` makes them first), and over what the check of the crate's edit before proved of the same text. The changed files stand in
@@ -91,7 +91,7 @@ def tried(crate, edit, words, below, kept):
 
 
 def is_chosen(edit, several):
-    """Whether a file of edits is to be tried: each, or one that names several."""
+    """Whether a file of edits is to be tried: each, or one that names what it holds."""
     return not several or re.search(r"^wrong: ", open(edit, encoding="utf-8").read(), re.M) is not None
 
 

@@ -6,8 +6,8 @@ usage: tests/python/edits.py
 Each 'old' must stand once in its file after the pairs before it, and 'new' must be another text. No name may be given twice in a crate,
 every name must stand in docs/AUDIT.md, once for each crate that has it, and each row of its table of public functions must name two.
 
-A file with lines 'wrong: NAME' holds several wrong programs, for one check. rt sees to it that the file is refused; here each of them must
-be. Each changes a function that has a proof of its own and that none of the others changes. The log (target/must-fail, which tools/edits.py
+A file with lines 'wrong: NAME' holds several wrong programs, for one check, or one whose refusal is read as theirs are. rt sees to it that the file is refused;
+here each of them must be. Each changes a function that has a proof of its own and that none of the others changes. The log (target/must-fail, which tools/edits.py
 writes) must be of that text, and must have an error in that proof that neither follows from another nor says that the
 proof file names what the code no longer has; or say that a goal of the function is open, to which no file has an answer.
 Of several wrong statements each has a line 'law: FILE NAME': the error must be in the proof of that law, which no other of them names. NAME may be
@@ -22,7 +22,7 @@ import sys
 
 import programs
 
-FUNCTION = re.compile(r'^\s*(?:pub(?:\(crate\))? )?(?:extern "C" )?fn (\w+)', re.M)
+FUNCTION = re.compile(r'^\s*(?:#\[.*\] )?(?:pub(?:\(crate\))? )?(?:extern "C" )?fn (\w+)', re.M)
 # What rt says where the proof of something else is missing, and where a proof file names what is not in the code: neither shows anything.
 SHOWS_NOTHING = ("was not admitted", "that can be named from here", "was not checked", "were not checked", "has no field", "is not in scope")
 # The files in which a function's proof can stand.
@@ -47,6 +47,11 @@ def wrongs(edit):
             found[-1][1].append((file, old, new[1:] if new.startswith(" ") else new))
             old = None
     return found[1:] if len(found) > 1 and not found[0][1] else found
+
+
+def is_read(edit):
+    """Whether the log of an edit is read: that of each with a line 'wrong: NAME'."""
+    return re.search(r"^wrong: ", open(edit, encoding="utf-8").read(), re.M) is not None
 
 
 def changed(crate, triples, texts, found):
@@ -177,12 +182,12 @@ def main():
             found += [f"{wrong} changes what its callers rest on"] if len(several) > 1 and not law and any(map(shared, triples)) else []
         checks, tried = checks + 1, tried + len(several)
         gate.update(wrong for wrong, _, _ in several)
-        found += together(edit, crate, proofs, texts) if len(several) > 1 else []
+        found += together(edit, crate, proofs, texts) if is_read(edit) else []
         faults += [f"{edit}: {said}" for said in found]
     faults += unnamed(names, gate)
     if faults or not tried:
         sys.exit("\n".join(faults) or "edits.py: no edits were found")
-    print(f"edits: {tried}, in {checks} checks, fit the texts that they change; of those tried together each is refused for itself")
+    print(f"edits: {tried}, in {checks} checks, fit the texts that they change; of those that are named in their file each is refused for itself")
 
 
 if __name__ == "__main__":

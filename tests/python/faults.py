@@ -58,7 +58,7 @@ esac
 # Programs that tools/build.sh starts for a program, and for the library; and violstream itself, where it compiles the command. Each counts its starts, and fails
 # when it is told to. A copy is then cut short, as on a full disk, also by mv from another folder.
 STARTED = {BUILDING[0]: "chmod cmp cp dirname mkdir mkfifo mktemp mv rm rt tee uname", BUILDING[1]: "cat chmod cp dirname llvm-ar ln mkdir mkfifo mktemp mv nproc rattle rm sed sort tee tr uname",
-           BUILDING[2]: "cat cksum cp find grep ls mkdir mv rm setpriv uname"}
+           BUILDING[2]: "cat cksum cp find grep ls mkdir mv rm sed setpriv uname"}
 FAILING = """#!/bin/sh
 name=${0##*/} PATH=%s
 printf '%%s\\n' "$name" >> %s

@@ -1,13 +1,18 @@
 #!/usr/bin/env python3
-"""Reads the source of the pricer and fails where it holds anything of its own for each want, leg or file.
+"""Reads the source of the pricer, and what it was compiled to, and fails where it holds anything of its own for each want, leg or file.
 
-usage: tests/python/pricer_rows.py [TREE]    TREE: the repository to read, by default this one
+usage: tests/python/pricer_rows.py [TREE] [--library FILE]    TREE: the repository to read, by default this one; FILE: the library for C
 
 Judged is every function of crates/walk, walk::price among them, and of crates/runs and crates/refusals every function
 that is called from there, with the types and constants that these name. Wrong are: an array (`[x; n]`, `[x, y]`, or the
 type `[T; n]`), a type other than numbers, rows lent by reference, the structs and enums of these crates, and Option and
-Result of these; recursion; a call of anything else but what goes over a row that is lent, or chooses among numbers. What is left takes stack for the single variables of a chain of calls, whatever the input;
-tests/c/stack.c measures how much that is.
+Result of these; recursion; a call of anything else but the methods of Rattle's library that go over a row that is lent, or choose among numbers.
+What is left takes stack for the single variables of a chain of calls, whatever the input.
+
+What those methods take is read with --library, as all that the two calls of the pricer go through in the compiled library: by objdump, for
+every input. Wrong are recursion, a call that cannot be followed, a function from outside other than one that copies, sets or compares
+memory, and frames that together, along any chain of calls, are above the 1,024 bytes that the header promises; tests/c/stack.c measures
+how much of that is used.
 
 So that a reader that sees nothing does not pass, each of these mistakes is then planted in each function, and must be found.
 """
@@ -16,6 +21,8 @@ import functools
 import glob
 import os
 import re
+import shutil
+import subprocess
 import sys
 from collections import namedtuple
 
@@ -27,7 +34,7 @@ NUMBERS = {"u8", "u16", "u32", "u64", "usize", "i8", "i16", "i32", "i64", "isize
 WORDS_IN_TYPES = NUMBERS | {"mut", "self", "Self", "Option", "Result"}
 CASES = {"Some", "None", "Ok", "Err"}
 # What is asked of a row that is lent, or of two, one entry after the other; and of numbers. None of these holds anything for each entry.
-METHODS_OF_ROWS = {"len", "is_empty", "contains", "last", "split_first", "iter", "zip", "enumerate", "rev", "any"}
+METHODS_OF_ROWS = {"len", "is_empty", "last", "split_first", "iter", "zip", "enumerate", "rev", "any", "fold"}
 METHODS_OF_NUMBERS = {"min", "max"}
 KEYWORDS = {"if", "while", "match", "return", "in", "as", "let", "mut", "else", "for", "loop", "break"}
 # Mistakes to plant, each with words of the complaint that it must bring; FUNCTION is the one in which it is planted.
@@ -298,10 +305,96 @@ def try_mistakes(texts, crates, judge):
     return len(judge.calls) * len(PLANTED)
 
 
+# ---- What it was compiled to ----
+
+CALLS, MOST, OUTSIDE = ("violstream_price", "violstream_price_any"), 1024, {"memcpy", "memmove", "memset", "memcmp"}
+# Mistakes to plant behind the first line of a compiled function, as objdump would show them, each with words of the complaint.
+COMPILED = (
+    ("  0:\tcall   *%rax", "a call that cannot be followed"),
+    ("  0:\tcall   5 <f>\n\t\t1: R_X86_64_PLT32\tmalloc-0x4", "calls malloc"),
+    ("  0:\tcall   5 <f>\n\t\t1: R_X86_64_PLT32\t.text.FUNCTION-0x4", "recursion"),
+    ("  0:\tsub    $0x400,%rsp", "bytes of stack"),
+    ("  0:\tadd    $0xfffffffffffffc00,%rsp", "bytes of stack"),
+)
+HEAD = re.compile(r"^[0-9a-f]+ <(.*)>:$")
+# A jump within a function, which a relocation does not belong to, is no call; what takes stack; what is called.
+PUSHED, LOWERED, ADDED = re.compile(r"\tpush\b"), re.compile(r"\tsub +\$0x([0-9a-f]+),%rsp"), re.compile(r"\tadd +\$0x(f{4}[0-9a-f]+),%rsp")
+WILD, CALLED = re.compile(r"\t(?:call|jmp) +\*|\tsub +%\w+,%rsp"), re.compile(r"R_X86_64_(?:PLT|PC)32\t(?:\.text\.)?(\S+?)-0x[0-9a-f]+$")
+
+
+def disassembled(library):
+    """The object of a library that has the pricer's calls, as objdump shows it."""
+    tool = shutil.which("x86_64-linux-gnu-objdump") or shutil.which("objdump")
+    if tool is None:
+        sys.exit(f"{sys.argv[0]}: no objdump (on Debian, as root: apt-get install binutils)")
+    said = subprocess.run([tool, "-dr", "--no-show-raw-insn", library], capture_output=True, text=True, check=True).stdout
+    return next((part for part in said.split("file format") if all(f"<{call}>:" in part for call in CALLS)), "")
+
+
+def frames(said):
+    """Each function by its name: the bytes of stack that it takes with its return address, and what it calls."""
+    found, name = {}, None
+    for line in said.split("\n"):
+        head = HEAD.match(line)
+        if head:
+            name = head[1]
+            found[name] = [8, set()]
+        elif name:
+            lowered, added, called = LOWERED.search(line), ADDED.search(line), CALLED.search(line)
+            found[name][0] += 8 * bool(PUSHED.search(line)) + (int(lowered[1], 16) if lowered else 0) + (2**64 - int(added[1], 16) if added else 0)
+            if WILD.search(line):
+                raise Wrong(f"{name} has a call that cannot be followed: {line.strip()}")
+            if called and not called[1].startswith("."):
+                found[name][1].add(called[1])
+    return found
+
+
+def deepest(found, name, above=()):
+    """The bytes of stack that a function takes with all below it, and the functions that it goes through."""
+    if name in above:
+        raise Wrong(f"recursion in the compiled {name}")
+    if name in OUTSIDE:
+        return 0, set()
+    if name not in found:
+        raise Wrong(f"{above[-1] if above else 'the library'} calls {name}, which is not in the library")
+    below = [deepest(found, called, (*above, name)) for called in sorted(found[name][1])]
+    return found[name][0] + max((taken for taken, _ in below), default=0), {name}.union(*(met for _, met in below))
+
+
+def judge_compiled(said):
+    """How much stack the pricer's calls can take at most, and the functions that they go through."""
+    found = frames(said)
+    taken = [deepest(found, call) for call in CALLS]
+    if max(most for most, _ in taken) > MOST:
+        raise Wrong(f"the compiled pricer can take {max(most for most, _ in taken)} bytes of stack, allowed are {MOST}")
+    return [most for most, _ in taken], set().union(*(met for _, met in taken))
+
+
+def try_compiled(library):
+    said = disassembled(library)
+    try:
+        taken, met = judge_compiled(said)
+    except Wrong as wrong:
+        sys.exit(f"{sys.argv[0]}: {library}: {wrong}")
+    for name in sorted(met):
+        for line, complaint in COMPILED:
+            try:
+                judge_compiled(said.replace(f"<{name}>:\n", f"<{name}>:\n{line.replace('FUNCTION', name)}\n"))
+                found = "nothing"
+            except Wrong as wrong:
+                found = str(wrong)
+            if complaint not in found:
+                sys.exit(f"{sys.argv[0]}: '{line}', planted in the compiled {name}, brought '{found}': this check does not check")
+    print(f"pricer_rows.py: compiled, {' and '.join(f'{call} takes at most {most}' for call, most in zip(CALLS, taken))} bytes of stack, whatever the input, "
+          f"in {len(met)} functions; {len(met) * len(COMPILED)} planted mistakes found")
+
+
 def main():
     reader = argparse.ArgumentParser(description="Fails where the pricer holds anything of its own for each want, leg or file.")
     reader.add_argument("tree", metavar="TREE", nargs="?", default=programs.ROOT, help="the repository to read, by default this one")
-    tree = reader.parse_args().tree
+    reader.add_argument("--library", metavar="FILE", help="the library for C, of which the two calls are read")
+    given = reader.parse_args()
+    tree = given.tree
     with open(os.path.join(tree, "crates.txt"), encoding="utf-8") as file:
         crates = {name for line in file if not line.startswith("#") for name in line.replace(":", " ").split()}
     texts = {}
@@ -316,6 +409,8 @@ def main():
     mistakes = try_mistakes(texts, crates, judge)
     counted = ", ".join(f"{sum(key[0] == crate for key in judge.calls)} of {crate}" for crate in BELOW)
     print(f"pricer_rows.py: nothing that grows in the functions of the pricer ({counted}); {mistakes} planted mistakes found")
+    if given.library:
+        try_compiled(given.library)
 
 
 if __name__ == "__main__":

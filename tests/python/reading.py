@@ -7,7 +7,7 @@ Fails where tools/reading.py counts 500 lines or more for demands 1 to 3; where 
 statement cites; where a file of demands/specs or promises/specs holds a proof and not statements alone; where two public files of specs/, of
 any crates, define one name; where a word that some statement or the contract of a public function rests on is neither in AUDIT's tables of what a
 statement says by conditions nor in its list of what must be read; where a word stands there that neither rests on, that stands in both, or that the
-statements beside it do not cite; and where the list misstates its lines.
+statements beside it do not cite; where the list misstates its lines; and where a public function asks something of its caller, which AUDIT says that none does (R58).
 
 So that a reader that sees nothing does not pass, each of these is then planted in a copy, and must be found.
 """
@@ -82,7 +82,17 @@ def lines_misstated():
     return [f"{reading.AUDIT} says {said} lines, and there are {lines}: {cell[:60]}" for cell, said, lines in reading.rows_to_read() if said != str(lines)]
 
 
-CHECKS = (too_long, through_private, proofs_among_statements, names_twice, words_unlisted, words_uncited, said_by_another, lines_misstated)
+def asked_of_callers():
+    """A clause `requires` between the head of a public function and its body."""
+    found = []
+    for path in sorted(glob.glob("crates/*/src/**/*.rt", recursive=True)):
+        code = re.sub(r"//[^\n]*", "", open(path, encoding="utf-8").read())
+        heads = re.finditer(r"^ *pub (?:const )?(?:extern \"C\" )?fn (\w+)(.*?)^ *\{$|^ *pub (?:const )?(?:extern \"C\" )?fn (\w+)([^\n]*)\{", code, re.M | re.S)
+        found += [f"{path}: {head[1] or head[3]} asks something of its caller" for head in heads if re.search(r"\brequires\b", head[2] or head[4] or "")]
+    return found
+
+
+CHECKS = (too_long, through_private, proofs_among_statements, names_twice, words_unlisted, words_uncited, said_by_another, lines_misstated, asked_of_callers)
 
 # What is planted: the check that must find it, the file, and pairs of a text that stands there once and what is put in its place.
 DEMAND, OTHER, FIRST = "crates/demands/specs/Demand3.antt", "crates/demands/specs/Alone.antt", "abbrev pub AloneAsBefore : Type 0\n"
@@ -103,6 +113,8 @@ PLANTED = (
     (words_uncited, reading.AUDIT, [("| `runs/specs/Lists`: `Detour`, ", "| `text_bytes/specs/Text`: `comma`; `runs/specs/Lists`: `Detour`, ")]),
     (said_by_another, reading.AUDIT, [("| `demands/specs/Letters`: `KeysAreSpelled` |", "| `demands/specs/Letters`: `Digits` |")]),
     (lines_misstated, reading.AUDIT, [("`boarding_of` | 9 |", "`boarding_of` | 8 |")]),
+    (asked_of_callers, "crates/text_inputs/src/lib.rt", [("pub fn read_line(line: &mut [u8]) -> usize\n", "pub fn read_line<F: FnOnce(&[u8]) -> u64>(line: &mut [u8], answer: F) -> usize\n    requires { F.IsAlwaysCallable answer }\n")]),
+    (asked_of_callers, "crates/walk/src/pricing.rt", [("pub fn price(\n", "pub fn asked(n: u64) -> u64\n    requires { n < 8 }\n{\n    n\n}\n\npub fn price(\n")]),
 )
 
 

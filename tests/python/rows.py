@@ -4,7 +4,7 @@
 usage: tests/python/rows.py
 
 Judged is each cmd_X, and cmd_desk function by function, since each of its three has a row of its own: every row that it prints must be in the table below, have
-as many bytes as the definition named there says, and be printed from its front, by the program or by text_inputs::answer_by; it may come from a function of the program that gives it. The row of an event is that of RowTakesEveryAnswer (DeskDays). The line of those
+as many bytes as the definition named there says, and be printed from its front; it may come from a function of the program that gives it. The row of an event is that of RowTakesEveryAnswer (DeskDays). The line of those
 who wait must be put as WaitingIsWhole says. A row that is a byte short is planted in each program, and another text in these functions, and must be found.
 """
 import os
@@ -40,9 +40,6 @@ ROW = re.compile(r"let mut (\w+) = \[0u8; (\d+)\];")
 GIVEN = re.compile(r"let mut (\w+) = (\w+)\(\);")
 PRINTED = re.compile(r"io::write_all\(\s*STD\w+,\s*([^;]*)\);")
 FRONT = re.compile(r"(?:text_inputs::)?front\(&(\w+),[^&]*\)$")
-# A row handed to the one that answers, and what that prints of it.
-ANSWERED = re.compile(r"text_inputs::answer_by\(&mut \w+, &mut (\w+),")
-ANSWER_PRINTED = "    io::write_all(STDOUT, front(out, bytes));\n}"
 EVENT = re.compile(r"^RowTakesEveryAnswer =$.*?^    → (\d+) ≤ length out$", re.M | re.S)
 FUNCTION = re.compile(r"^fn (\w+)\(.*?^\}$", re.M | re.S)
 
@@ -56,7 +53,7 @@ def judged(name, text, numbers):
     """What is wrong with the rows of a program, or of a function of one."""
     rows = dict(ROW.findall(text)) | {row: size for row, giver in GIVEN.findall(text)
                                       for size in re.findall(rf"fn {giver}\(\) -> \[u8; (\d+)\] {{\n    \[0u8; \1\]\n", text)}
-    printed = [FRONT.match(what.strip()) for what in PRINTED.findall(text)] + list(ANSWERED.finditer(text))
+    printed = [FRONT.match(what.strip()) for what in PRINTED.findall(text)]
     if not printed or None in printed or {p[1] for p in printed} != set(ROWS[name]):
         return [f"cmd_{name}: what it prints is not the fronts of {', '.join(ROWS[name])}"]
     if name in PUT and text.count(PUT[name]) != 1:
@@ -72,10 +69,7 @@ def main():
     texts.update((f"desk::{part[1]}", part[0]) for part in FUNCTION.finditer(desk) if PRINTED.search(part[0]))
     if set(texts) != set(ROWS) or len(PRINTED.findall(desk)) != sum(len(PRINTED.findall(text)) for name, text in texts.items() if name.startswith("desk::")):
         sys.exit(f"rows.py: its table is not of these programs and functions: {', '.join(sorted(texts))}")
-    inputs = read("crates/text_inputs/src/lib.rt")
     found = [wrong for name in ROWS for wrong in judged(name, texts[name], numbers)]
-    if ANSWER_PRINTED not in inputs or len(PRINTED.findall(inputs)) != 1:
-        found.append("text_inputs::answer_by: what it prints is not the front of out")
     for name, rows in ROWS.items():
         for row, number in rows.items():
             short = re.sub(rf"\b{numbers[number]}\b", str(int(numbers[number]) - 1), texts[name])

@@ -16,7 +16,9 @@ fn read_pair_event(event: &[u8]) -> Option<Event>
             number: line.second,
         });
     }
-    let line = pair_line(event, 0, b"board=")?;
+    let Some(line) = pair_line(event, 0, b"board=") else {
+        return None;
+    };
     Some(Event::Board {
         head: line.first,
         turn: line.second,

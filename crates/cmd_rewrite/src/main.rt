@@ -3,6 +3,11 @@
 #![tactic(auto)]
 
 use refusals::Verdict;
+use text_inputs::front;
+
+const STDIN: i32 = 0;
+
+const STDOUT: i32 = 1;
 
 // How many bytes the answer has, in the first bytes of a row: those of the result, or of the lines of its refusal.
 fn answer(sheet: &[u8], out: &mut [u8]) -> u64 {
@@ -18,8 +23,11 @@ fn answer(sheet: &[u8], out: &mut [u8]) -> u64 {
 }
 
 // A byte more than a sheet may have is read. No result is longer than a sheet may be.
+// Stays: reads and prints as in `cmd_buys`; a function that takes the one which answers needs a `requires`, and no public function has any (R58).
 fn main() {
     let mut sheet = [0u8; 16385];
     let mut out = [0u8; 16384];
-    text_inputs::answer_by(&mut sheet, &mut out, answer);
+    let n = io::read_full(STDIN, &mut sheet);
+    let bytes = answer(&sheet[..n], &mut out);
+    io::write_all(STDOUT, front(&out, bytes));
 }

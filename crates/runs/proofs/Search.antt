@@ -9,9 +9,9 @@ use native.Mathlib.Numerals.{add-one}
 use native.Mathlib.Decide.{dec_lt}
 use lib.Dec.{ltb, leb}
 use borrow.Author.Tests.{lt-ltb, le-ltb, lt-leb, le-leb}
-use mathlib.Core.List.{List}
+use mathlib.Core.List.{List, [], ◌∷◌}
 use lib.ListN.{length, get_or, take}
-use Rattle.std.specs.List.{list_any}
+use Rattle.std.specs.List.{fold, list_any}
 use Rattle.std.proofs.lemmas.List.Folds.{list_any_more}
 use Rattle.refusals.specs.Refusals.{first_where, one_more}
 use Rattle.runs.specs.Lists.{any_below}
@@ -137,6 +137,16 @@ pub any_taken : (test : ℕ → Bool) (xs : List ℕ) (i : ℕ) → i ≤ length
 unfolding any_below
 any_taken test xs zero l = refl
 any_taken test xs (suc i) l = rw (any_taken test xs i (omega arith), ← add-one) (sym (list_any_more test xs i 0 (omega arith)))
+
+-- A row that is gone through to its end, with what has been found so far.
+folded_on : (test : ℕ → Bool) (met : Bool) (xs : List ℕ) → fold (λ met x. met || test x) met xs ≡ (met || list_any test xs)
+folded_on test true [] = refl
+folded_on test false [] = refl
+folded_on test true (x ∷ xs) = folded_on test true xs
+folded_on test false (x ∷ xs) = folded_on test (test x) xs
+
+pub any_folded : (test : ℕ → Bool) (xs : List ℕ) → fold (λ met x. met || test x) false xs ≡ list_any test xs
+any_folded test xs = folded_on test false xs
 
 -- Tests that agree at every entry find the same.
 pub first_same : (f g : ℕ → Bool) (n : ℕ) → ((i : ℕ) → i < n → f i ≡ g i) → first_where f n ≡ first_where g n

@@ -54,12 +54,15 @@ pub fn last_member(aggregates: &[u64], i: usize) -> usize
     i
 }
 
-// Whether an entry before an index has a number.
+// Whether an entry before an index has a number. All of them are looked at, several in one step of the processor; an early end would take twice as long, since
+// where the table is good no number is met.
 fn met_before(aggregates: &[u64], number: u64, i: usize) -> bool
     requires { i ≤ length aggregates.now }
     ensures { result ≡ any_below (λ j. eqb (get_or aggregates.now j 0) number) i }
 {
-    aggregates[..i].contains(&number)
+    aggregates[..i]
+        .iter()
+        .fold(false, |met, other| met | (*other == number))
 }
 
 // An entry's aggregate number. The entries before it are looked at only where a new number begins, between the bounds of those met.

@@ -63,11 +63,21 @@ struct Below {
 fn read_top(sheet: &[u8]) -> Result<Top, BadLine>
     ensures { TopFound sheet.now result }
 {
-    let name = tape_line(sheet).ok_or(BadLine { line: 1 })?;
-    let head = number_line(sheet, name.next, b"head=").ok_or(BadLine { line: 2 })?;
-    let turn = turn_line(sheet, head.next).ok_or(BadLine { line: 3 })?;
-    let rule = rule_line(sheet, turn.next).ok_or(BadLine { line: 4 })?;
-    let files = number_line(sheet, rule.next, b"files=").ok_or(BadLine { line: 5 })?;
+    let Some(name) = tape_line(sheet) else {
+        return Err(BadLine { line: 1 });
+    };
+    let Some(head) = number_line(sheet, name.next, b"head=") else {
+        return Err(BadLine { line: 2 });
+    };
+    let Some(turn) = turn_line(sheet, head.next) else {
+        return Err(BadLine { line: 3 });
+    };
+    let Some(rule) = rule_line(sheet, turn.next) else {
+        return Err(BadLine { line: 4 });
+    };
+    let Some(files) = number_line(sheet, rule.next, b"files=") else {
+        return Err(BadLine { line: 5 });
+    };
     Ok(Top {
         third: head.next,
         turn: turn.number,
@@ -122,7 +132,9 @@ fn read_below(sheet: &[u8], at: usize, files: u64) -> Result<Below, BadLine>
     requires { WantsAt sheet.now at files }
     ensures { BelowFound sheet.now result }
 {
-    let said = number_line(sheet, at, b"wants=").ok_or(BadLine { line: files + 6 })?;
+    let Some(said) = number_line(sheet, at, b"wants=") else {
+        return Err(BadLine { line: files + 6 });
+    };
     let wants = want_lines(sheet, said.next);
     if wants.next < sheet.len() {
         return Err(BadLine {

@@ -20,6 +20,12 @@ pub further_twice : (m n : ℕ) (e : End) → further m (further n e) ≡ furthe
 further_twice m n (after k) = ap after (omega arith)
 further_twice m n never = refl
 
+-- Where another byte stands at a position, none of what begins with this one does.
+pub other_first : (text wanted : List ℕ) (i : ℕ) → i < length text → 0 < length wanted → eqb (get_or wanted 0 0) (get_or text i 0) ≡ false → false ≡ starts_with wanted (drop i text)
+unfolding starts_with
+other_first text [] i l z e = absurd (omega arith)
+other_first text (k ∷ key) i l z e = rw (drop-cons text i 0 l, e) refl
+
 -- An end looked for from one position on, by another: the end from there on, so many bytes further.
 pub record Sought (text : List ℕ) (at i : ℕ) (whole left : End) : Type 0 where
   pub from : at ≤ i

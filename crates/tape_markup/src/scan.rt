@@ -1,7 +1,27 @@
 // Where things in a text end. Each search starts at a position and answers one: the first behind what it looked for; `None` where it never ends.
 ghost use Rattle.std.specs.Prelude.{◌≡◌, ◌+◌, ◌≤◌, ◌<◌, ◌&&◌, length, drop, eqb};
+ghost use Rattle.text_bytes.specs.Text.{starts_with};
 ghost use Rattle.tape_markup.specs.Markup.{end_behind, tag_end, declaration_end, quote_after, depth_after, front_of, is_char, is_blank, begins_name, in_name, name_size};
 ghost use Rattle.tape_markup.specs.Private.{EndFound, ends_declaration};
+
+// Whether some bytes stand at a position.
+// Apart, so that the loop that looks for them is over the comparison of one byte.
+#[inline(never)]
+fn all_stand_at(text: &[u8], i: usize, wanted: &[u8]) -> bool
+    requires { i ≤ length text.now }
+    ensures { result ≡ starts_with wanted.now (drop i text.now) }
+{
+    text_bytes::starts(&text[i..], wanted)
+}
+
+// The same, the first byte first: nearly everywhere it is another.
+fn stands_at(text: &[u8], i: usize, wanted: &[u8]) -> bool
+    requires i_in_bounds { i < length text.now }
+    requires wanted_nonzero { 0 < length wanted.now }
+    ensures { result ≡ starts_with wanted.now (drop i text.now) }
+{
+    wanted[0] == text[i] && all_stand_at(text, i, wanted)
+}
 
 // Behind the first place, from a position on, where some bytes stand.
 pub(crate) fn end_behind(text: &[u8], at: usize, wanted: &[u8]) -> Option<usize>
@@ -10,7 +30,7 @@ pub(crate) fn end_behind(text: &[u8], at: usize, wanted: &[u8]) -> Option<usize>
     ensures { EndFound (end_behind wanted.now (drop at text.now)) text.now at result }
 {
     for i in at..text.len() {
-        if text_bytes::starts(&text[i..], wanted) {
+        if stands_at(text, i, wanted) {
             return Some(i + wanted.len());
         }
     }

@@ -3,14 +3,11 @@
 #![tactic(auto)]
 
 ghost use Rattle.std.specs.Prelude.{◌≡◌, ◌+◌, ◌≤◌, length, take};
-ghost use Rattle.text_inputs.specs.Answering.{AnsweredBy};
 ghost use Rattle.text_inputs.specs.Inputs.{framed, framed_behind, part_in, part_place, LineRead, ReadOf};
 
 use text_lines::number_line;
 
 const STDIN: i32 = 0;
-
-const STDOUT: i32 = 1;
 
 // Where a sheet stands in an input. What follows it is the other text.
 #[derive(Clone, Copy)]
@@ -50,7 +47,9 @@ fn frame_behind(from: usize, bytes: u64, left: usize, cut: bool) -> Option<Frame
 pub fn frame(input: &[u8], cut: bool) -> Option<Framed>
     ensures { result ≡ framed input.now cut }
 {
-    let line = number_line(input, 0, b"")?;
+    let Some(line) = number_line(input, 0, b"") else {
+        return None;
+    };
     let left = input.len() - line.next;
     frame_behind(line.next, line.number, left, cut)
 }
@@ -152,15 +151,4 @@ pub fn read_bytes(row: &mut [u8], bytes: u64) -> Got
         kept,
         all: kept + more,
     }
-}
-
-// What a program does that has one input and one answer: standard input into a row, as much as it holds; the answer to it in the first bytes of another
-// row, how many they are; and these bytes to standard output.
-pub fn answer_by<F: FnOnce(&[u8], &mut [u8]) -> u64>(input: &mut [u8], out: &mut [u8], answer: F)
-    requires { F.IsAlwaysCallable answer }
-    ensures { AnsweredBy F.FnOnce answer input.new out.old out.new }
-{
-    let n = io::read_full(STDIN, input);
-    let bytes = answer(&input[..n], out);
-    io::write_all(STDOUT, front(out, bytes));
 }

@@ -6,10 +6,8 @@ use mathlib.Core.List.{List, [], ◌∷◌, ◌++◌, append_assoc, append-nil}
 use native.Mathlib.Omega.{arith}
 use native.Mathlib.Nat.{one-le-pow, mul-le-mul_right}
 use native.Mathlib.Numerals.{add-one}
-use lib.ListN.{length, get_or, take, drop, length-append, length-drop, take-append-drop, drop_of_length-le}
-use borrow.Rule.Slice.PartMut.{put_mid}
-use Rattle.std.proofs.lemmas.Slice.{take-put_mid, drop-put_mid}
-use lib.Seq.{length-take-le, drop-cons, drop-drop}
+use lib.ListN.{length, get_or, take, drop, set, length-append, length-drop, take-append-drop, drop_of_length-le}
+use lib.Seq.{paste, paste-zero, paste-suc, length-paste, take-paste, drop-paste, take-length, length-take-le, drop-cons, drop-drop}
 use native.Mathlib.Decide.{dec_lt}
 use lib.Dec.{ltb}
 use borrow.Author.Tests.{lt-ltb, le-ltb, ltb-true, ltb-false}
@@ -84,19 +82,34 @@ pub put_triple : (key : List ℕ) (a b c : ℕ) {page : List ℕ} {at most : ℕ
     → Put page at (key ++ pair_text a b ++ number_line (comma ∷ []) c) most page' next → Put page at (triple_line key a b c) most page' next
 put_triple key a b c p = simp append_assoc (simp append_assoc at p)
 
--- A text copied to a place that has room for it.
-pub text_put : (page : List ℕ) (at : ℕ) (text copy : List ℕ) → at + length text ≤ length page → copy ≡ text
-    → Put page at text (length text) (put_mid at (at + length text - at) page copy) (at + length text)
-text_put page at text copy room same =
-    let size : at + length text - at ≡ length text = omega arith in
-    rw (same, size)
-    (put_done room
-    (record {
-      after = refl;
-      bytes = take-put_mid at (length text) page text (at + length text) refl (omega arith);
-      later = drop-put_mid at (length text) page text (at + length text) (omega arith) (omega arith) refl;
-      within = omega arith;
-    }))
+-- Putting a text byte by byte.
+pub record Putting (page₀ : List ℕ) (at : ℕ) (text page : List ℕ) (i : ℕ) : Type 0 where
+  pub within : i ≤ length text
+  pub so_far : page ≡ paste page₀ at text i
+
+pub putting_none : (page : List ℕ) (at : ℕ) (text : List ℕ) → Putting page at text page 0
+putting_none page at text = record { within = omega arith; so_far = paste-zero page at text }
+
+module _ (page₀ : List ℕ) (at : ℕ) (text : List ℕ) (room : at + length text ≤ length page₀) (page : List ℕ) (i : ℕ) (p : Putting page₀ at text page i) where
+  pub putting_long : length page ≡ length page₀
+  putting_long = let w = p.within in ap length p.so_far ∙ length-paste page₀ at text i (omega arith) w
+
+  pub byte_put : i < length text → Putting page₀ at text (set page (at + i) (get_or text i 0)) (i + 1)
+  byte_put l = record { within = omega arith; so_far = rw (p.so_far, add-one) (paste-suc page₀ at text i 0 (omega arith) l) }
+
+  module _ (l : length text ≤ i) where
+    whole : page ≡ paste page₀ at text (length text)
+    whole = let w = p.within in let e : i ≡ length text = omega arith in rw (← e) p.so_far
+
+    pub text_put : Put page₀ at text (length text) page (at + length text)
+    text_put =
+        put_done room
+        (record {
+          after = refl;
+          bytes = rw whole (take-paste page₀ at text (length text) (omega arith) (omega arith) ∙ rw (take-length text));
+          later = rw whole (drop-paste page₀ at text (length text) (omega arith) (omega arith));
+          within = omega arith;
+        })
 
 -- The fewest digits that hold a number are its decimal text.
 glyph_digit : (d : ℕ) → d < 10 → hex_digit_ascii d ≡ 48 + d

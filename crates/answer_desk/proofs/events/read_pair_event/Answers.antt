@@ -7,12 +7,12 @@ use Rattle.answer_desk.proofs.events.read_pair_event.Goals as goal
 pub returns-in-Some : goal.returns-in-Some
 returns-in-Some c = withdraw_found _ _ c.in-Some.ensures
 
-pub returns-in_err-line : goal.returns-in_err-line
-returns-in_err-line c =
+pub returns-in_default-pair_line : goal.returns-in_default-pair_line
+returns-in_default-pair_line c =
     let event = c.args.event.now in
-    rw c.from_residual.ensures (none_found event c.in_default.ensures (subst (λ r. PairLineFound board_key event 0 r) c.in_err-line.was c.pair_line-2.ensures))
+    none_found event c.in_default.ensures (subst (λ r. PairLineFound board_key event 0 r) c.in_default-pair_line.is c.pair_line-2.ensures)
 
 pub returns : goal.returns
 returns c =
     let event = c.args.event.now in
-    board_found event c.in_default.ensures _ (subst (λ r. PairLineFound board_key event 0 r) c.in_ok-line.was c.pair_line-2.ensures)
+    board_found event c.in_default.ensures _ (subst (λ r. PairLineFound board_key event 0 r) c.in-Some-pair_line.is c.pair_line-2.ensures)
